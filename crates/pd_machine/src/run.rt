@@ -1,0 +1,75 @@
+//! What a run is made of: results of nodes, frames, and what waits on the machine's stack.
+use pd_values::{Fault, Items, NodeId, Value};
+
+/// What stops a run before its end.
+#[derive(Clone, Copy, Drop)]
+pub enum Cutoff {
+    SpentFuel,
+    WasKilled,
+}
+
+/// What a node comes to. `Unwinds` goes to the frame of this number, where 0 is the outermost: it
+/// enters that frame again, or gives its call the value.
+#[derive(Drop)]
+pub enum NodeResult {
+    Gives(Value),
+    Returns(Value),
+    Breaks,
+    Continues,
+    Faults(Fault, NodeId),
+    Unwinds(u32, Option<Value>),
+    Stops(Cutoff),
+}
+
+/// Where the variables of a block stand: in the frame of this number, where 0 is the outermost, or
+/// in the main block of this source.
+#[derive(Clone, Copy, Drop)]
+pub enum Home {
+    InFrame(u32),
+    InMain(u32),
+}
+
+/// A live call: the function or procedure, the call node where it waits for the next frame, its
+/// variables by slot (those of a main block stand in the context), and for each block that it sees,
+/// from its own outward, where the variables stand.
+#[derive(Drop)]
+pub struct Frame {
+    pub root: NodeId,
+    pub at: NodeId,
+    pub variables: Items<Value>,
+    pub blocks: Items<Home>,
+}
+
+/// What waits for the result of a node.
+#[derive(Drop)]
+pub enum Pending {
+    /// An open activation of a node with tags, and the number of its Enter.
+    Leaving(NodeId, u32),
+    /// A node with the values of its parts so far, and its parts after the one that runs.
+    Operand(NodeId, Items<Value>, Items<NodeId>),
+    /// An SL body, which takes a return.
+    Catching,
+    /// An `if` whose condition runs, with its block, or with both its blocks.
+    Choosing(NodeId, NodeId),
+    ChoosingBetween(NodeId, NodeId, NodeId),
+    /// A `while` whose condition runs, and one whose block runs: the node, the condition, the block.
+    Testing(NodeId, NodeId, NodeId),
+    Turning(NodeId, NodeId, NodeId),
+    /// An `||` (at true) or `&&` (at false) whose left side runs, with its right side, and one whose
+    /// right side runs.
+    LeftSide(bool, NodeId, NodeId),
+    RightSide(NodeId),
+    /// A call: the number of its frame, and the frame as it began.
+    InCall(u32, Frame),
+    /// A PL/0 call, which drops the result.
+    Dropping,
+}
+
+/// A node is to be entered, a node that was entered is to do its work, or a result is to go to what
+/// waits for it.
+#[derive(Drop)]
+pub enum Mode {
+    Entering(NodeId),
+    Starting(NodeId),
+    Coming(NodeResult),
+}

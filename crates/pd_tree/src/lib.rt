@@ -1,0 +1,6 @@
+//! The nodes of programs in both guest languages.
+#![tactic(auto)]
+
+mod kind;
+
+pub use kind::{Kind, Meaning, Operator, Visible};
