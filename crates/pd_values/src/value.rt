@@ -20,7 +20,7 @@ impl Model for NodeId {
 }
 
 /// The standard tags of nodes.
-#[derive(Clone, Copy, Drop)]
+#[derive(Clone, Copy, Debug, Drop, PartialEq, Eq)]
 pub enum Tag {
     Statement,
     Call,
@@ -43,7 +43,7 @@ pub enum Value {
 }
 
 /// Why a program ends with a fault.
-#[derive(Clone, Copy, Drop)]
+#[derive(Clone, Copy, Debug, Drop, PartialEq, Eq)]
 pub enum Fault {
     Overflow,
     DivZero,
@@ -66,7 +66,7 @@ pub enum End {
 }
 
 /// The comparisons of order.
-#[derive(Clone, Copy, Drop)]
+#[derive(Clone, Copy, Debug, Drop, PartialEq, Eq)]
 pub enum Cmp {
     Less,
     LessEq,
