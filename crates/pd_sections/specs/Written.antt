@@ -1,0 +1,6 @@
+-- What contracts see of a source: its name and its bytes.
+use Rattle.std.specs.Prelude.{ℕ, List}
+
+pub record Written : Type 0 where
+  pub name : List ℕ
+  pub bytes : List ℕ
