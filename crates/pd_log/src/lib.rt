@@ -1,0 +1,86 @@
+//! A binding's log of one context: its entries, and the pairing of an activation's end with its Enter.
+#![tactic(auto)]
+
+ghost use Rattle.std.specs.Prelude.{◌≡◌, ℕ, ◌<◌, ◌^◌, length, MatchOption};
+ghost use Rattle.pd_log.specs.Pairing.{IsByEvent, IsEnterOf, IsPartner};
+
+use pd_machine::EventKind;
+use pd_values::NodeId;
+
+/// One delivery: the context, the event's number there, the number of the Enter of the same activation, the
+/// place in the binding's own numbering, what happened, and the node.
+#[derive(Drop)]
+pub struct Entry {
+    pub context: u32,
+    pub event: u32,
+    pub opened: u32,
+    pub place: u64,
+    pub kind: EventKind,
+    pub node: NodeId,
+}
+
+/// The position of the Enter of the entry at `i`, by a binary search. `None` comes exactly where that entry is
+/// an Enter itself, or its Enter isn't in the log. Condition: the log is one context's, so events rise, and `i`
+/// is a position of it. It takes no memory.
+pub fn partner(log: &[Entry], i: u32) -> Option<u32>
+    requires of_one_context { IsByEvent log.now }
+    requires room { length log.now < 2 ^ 32 }
+    requires within { i < length log.now }
+    ensures { MatchOption result ((j : ℕ) → IsPartner log.now i j → ⊥) (λ j. IsPartner log.now i j) }
+{
+    let entry = &log[i as usize];
+    match entry.kind {
+        EventKind::Enter => None,
+        _ => enter_of(log, entry.opened),
+    }
+}
+
+// The position of the Enter of this event, if the log has it.
+fn enter_of(log: &[Entry], event: u32) -> Option<u32>
+    requires of_one_context { IsByEvent log.now }
+    requires room { length log.now < 2 ^ 32 }
+    ensures { MatchOption result ((j : ℕ) → IsEnterOf log.now event j → ⊥) (λ j. IsEnterOf log.now event j) }
+{
+    match log.binary_search_by_key(&event, |entry| entry.event) {
+        Ok(at) => match log[at].kind {
+            EventKind::Enter => Some(at as u32),
+            _ => None,
+        },
+        Err(_) => None,
+    }
+}
+
+#[cfg(test)]
+mod tests {
+    use super::*;
+    use std::test::Fail;
+
+    fn entry(event: u32, opened: u32, kind: EventKind) -> Entry
+        ensures { result.event ≡ event }
+    {
+        Entry {
+            context: 0,
+            event,
+            opened,
+            place: 0,
+            kind,
+            node: NodeId(2),
+        }
+    }
+
+    #[test]
+    fn an_end_finds_its_enter_among_nested_ones(rt: HostRuntime) -> Result<(), Fail> {
+        let log = [
+            entry(2, 2, EventKind::Enter),
+            entry(5, 5, EventKind::Enter),
+            entry(8, 5, EventKind::Return(pd_values::Value::Null)),
+            entry(9, 2, EventKind::Leave(pd_machine::Cause::Returning)),
+            entry(12, 11, EventKind::Return(pd_values::Value::Null)),
+        ];
+        assert_eq!(rt; partner(&log, 0), None);
+        assert_eq!(rt; partner(&log, 2), Some(1));
+        assert_eq!(rt; partner(&log, 3), Some(0));
+        assert_eq!(rt; partner(&log, 4), None);
+        Ok(())
+    }
+}
