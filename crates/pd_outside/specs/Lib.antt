@@ -1,0 +1,3 @@
+pub mod Files
+pub mod MemoryLibrary
+pub mod MemorySink
