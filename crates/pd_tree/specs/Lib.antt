@@ -1,2 +1,7 @@
 pub mod Program
 pub mod Binary
+pub mod Kinds
+pub mod Linked
+pub mod WellFormed
+pub mod Kept
+pub mod Linking

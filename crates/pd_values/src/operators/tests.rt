@@ -2,6 +2,7 @@
 use super::*;
 use crate::items::Items;
 use crate::value::NodeId;
+use std::process::Abort;
 use std::test::Fail;
 
 /// The number or the fault of an answer, and `None` for a value of another kind.
@@ -22,74 +23,93 @@ fn added(alloc: Global, x: i64, y: i64) -> Option<Result<i64, Fault>> {
     }
 }
 
+/// The sum, the difference, the product and the quotient of two numbers.
+type Results = [Result<i64, Fault>; 4];
+
+fn expect_results(rt: &impl Abort, alloc: Global, x: i64, y: i64, results: Results) {
+    let [sum_of, difference_of, product_of, quotient_of] = results;
+    let a = Value::Number(x);
+    let b = Value::Number(y);
+    assert_eq!(rt; added(alloc, x, y), Some(sum_of), "{x} + {y}");
+    assert_eq!(rt; number(sub(&a, &b)), Some(difference_of), "{x} - {y}");
+    assert_eq!(rt; number(mul(&a, &b)), Some(product_of), "{x} * {y}");
+    assert_eq!(rt; number(div(&a, &b)), Some(quotient_of), "{x} / {y}");
+}
+
 #[test]
-fn numbers(rt: HostRuntime) {
+fn two_numbers(rt: HostRuntime) {
     const MIN: i64 = i64::MIN;
     const MAX: i64 = i64::MAX;
-    let overflow = Err(Fault::Overflow);
+    let over = Err(Fault::Overflow);
     let by_zero = Err(Fault::DivZero);
-    // the two numbers, and their sum, difference, product and quotient
-    let cases = [
-        (MAX, 1, overflow, Ok(MAX - 1), Ok(MAX), Ok(MAX)),
-        (MIN, -1, overflow, Ok(MIN + 1), overflow, overflow),
-        (MIN, 1, Ok(MIN + 1), overflow, Ok(MIN), Ok(MIN)),
-        (-7, 2, Ok(-5), Ok(-9), Ok(-14), Ok(-3)),
-        (7, -2, Ok(5), Ok(9), Ok(-14), Ok(-3)),
-        (MIN, 0, Ok(MIN), Ok(MIN), Ok(0), by_zero),
-        (
-            3_037_000_500,
-            3_037_000_500,
-            Ok(6_074_001_000),
-            Ok(0),
-            overflow,
-            Ok(1),
-        ),
-    ];
-    for (x, y, added_to, less, times, by) in cases {
-        let a = Value::Number(x);
-        let b = Value::Number(y);
-        assert_eq!(rt; added(rt.alloc(), x, y), Some(added_to), "{x} + {y}");
-        assert_eq!(rt; number(sub(&a, &b)), Some(less), "{x} - {y}");
-        assert_eq!(rt; number(mul(&a, &b)), Some(times), "{x} * {y}");
-        assert_eq!(rt; number(div(&a, &b)), Some(by), "{x} / {y}");
-    }
-    // a number, and what a sign `-` makes of it
-    for (x, negative) in [(7, Ok(-7)), (MIN, overflow), (MAX, Ok(-MAX)), (0, Ok(0))] {
-        assert_eq!(rt; number(plus(&Value::Number(x))), Some(Ok(x)));
-        assert_eq!(rt; number(minus(&Value::Number(x))), Some(negative), "-({x})");
-    }
-    for (x, is_odd) in [(-7, true), (7, true), (0, false), (MIN, false), (MAX, true)] {
-        match odd(&Value::Number(x)) {
-            Ok(Value::Bool(found)) => assert_eq!(rt; found, is_odd, "{x}"),
-            _ => assert!(rt; false, "{x} is a number"),
-        }
-    }
-    assert_eq!(rt;
-        number(sub(&Value::Null, &Value::Number(1))),
-        Some(Err(Fault::WrongKind))
+    expect_results(
+        &rt,
+        rt.alloc(),
+        MAX,
+        1,
+        [over, Ok(MAX - 1), Ok(MAX), Ok(MAX)],
     );
+    expect_results(&rt, rt.alloc(), MIN, -1, [over, Ok(MIN + 1), over, over]);
+    expect_results(
+        &rt,
+        rt.alloc(),
+        MIN,
+        1,
+        [Ok(MIN + 1), over, Ok(MIN), Ok(MIN)],
+    );
+    expect_results(&rt, rt.alloc(), -7, 2, [Ok(-5), Ok(-9), Ok(-14), Ok(-3)]);
+    expect_results(&rt, rt.alloc(), 7, -2, [Ok(5), Ok(9), Ok(-14), Ok(-3)]);
+    expect_results(&rt, rt.alloc(), MIN, 0, [Ok(MIN), Ok(MIN), Ok(0), by_zero]);
+    let root = 3_037_000_500;
+    expect_results(
+        &rt,
+        rt.alloc(),
+        root,
+        root,
+        [Ok(6_074_001_000), Ok(0), over, Ok(1)],
+    );
+    let mixed = sub(&Value::Null, &Value::Number(1));
+    assert_eq!(rt; number(mixed), Some(Err(Fault::WrongKind)));
+}
+
+fn expect_signs(rt: &impl Abort, x: i64, negative: Result<i64, Fault>, is_odd: bool) {
+    let a = Value::Number(x);
+    assert_eq!(rt; number(plus(&a)), Some(Ok(x)));
+    assert_eq!(rt; number(minus(&a)), Some(negative), "-({x})");
+    match odd(&a) {
+        Ok(Value::Bool(found)) => assert_eq!(rt; found, is_odd, "{x}"),
+        _ => assert!(rt; false, "{x} is a number"),
+    }
+}
+
+#[test]
+fn one_number(rt: HostRuntime) {
+    expect_signs(&rt, 7, Ok(-7), true);
+    expect_signs(&rt, -7, Ok(7), true);
+    expect_signs(&rt, 0, Ok(0), false);
+    expect_signs(&rt, i64::MIN, Err(Fault::Overflow), false);
+    expect_signs(&rt, i64::MAX, Ok(-i64::MAX), true);
+}
+
+/// Whether the first number is less, at most, greater and at least the second, and whether they are the same.
+fn expect_order(rt: &impl Abort, x: i64, y: i64, order: [bool; 4], same: bool) {
+    let [less, at_most, greater, at_least] = order;
+    let a = Value::Number(x);
+    let b = Value::Number(y);
+    assert_eq!(rt; compare(Cmp::Less, &a, &b), Ok(less));
+    assert_eq!(rt; compare(Cmp::LessEq, &a, &b), Ok(at_most));
+    assert_eq!(rt; compare(Cmp::Greater, &a, &b), Ok(greater));
+    assert_eq!(rt; compare(Cmp::GreaterEq, &a, &b), Ok(at_least));
+    assert_eq!(rt; equal(&a, &b), same);
 }
 
 #[test]
 fn orders_and_equality(rt: HostRuntime) -> Result<(), Fail> {
-    // two numbers, and whether the first is less, at most, greater, at least, and the same
-    for (x, y, less, at_most, greater, at_least, same) in [
-        (-1, 0, true, true, false, false, false),
-        (5, 5, false, true, false, true, true),
-        (i64::MAX, i64::MIN, false, false, true, true, false),
-    ] {
-        let a = Value::Number(x);
-        let b = Value::Number(y);
-        assert_eq!(rt; compare(Cmp::Less, &a, &b), Ok(less));
-        assert_eq!(rt; compare(Cmp::LessEq, &a, &b), Ok(at_most));
-        assert_eq!(rt; compare(Cmp::Greater, &a, &b), Ok(greater));
-        assert_eq!(rt; compare(Cmp::GreaterEq, &a, &b), Ok(at_least));
-        assert_eq!(rt; equal(&a, &b), same);
-    }
-    assert_eq!(rt;
-        compare(Cmp::Less, &Value::Number(1), &Value::Null),
-        Err(Fault::WrongKind)
-    );
+    expect_order(&rt, -1, 0, [true, true, false, false], false);
+    expect_order(&rt, 5, 5, [false, true, false, true], true);
+    expect_order(&rt, i64::MAX, i64::MIN, [false, false, true, true], false);
+    let mixed = compare(Cmp::Less, &Value::Number(1), &Value::Null);
+    assert_eq!(rt; mixed, Err(Fault::WrongKind));
     let seven = Value::Text(Text::of("7".to_string(rt.alloc())?));
     assert!(rt; equal(&seven, &seven.copy()?));
     assert!(rt; !equal(&seven, &Value::Number(7)));
