@@ -1,12 +1,11 @@
 -- A text splits in one way at most, and either splits or offends.
-use Rattle.std.proofs.Common.{◌≡◌, ℕ, ◌+◌, ◌<◌, ◌≤◌, suc, zero, List, [], ◌∷◌, length, take, drop, Option, Some, None, refl, sym, ap, ◌∙◌, subst, arith, ◌⊎◌, inl, inr, length-drop}
+use Rattle.std.proofs.Common.{◌≡◌, ℕ, ◌+◌, ◌<◌, List, [], take, drop, Some, None, refl, sym, subst, arith, inl, inr}
 use Rattle.std.proofs.lemmas.Bool.{cases_lt}
 use Rattle.pd_sections.specs.declared.Token.{Token}
-use Rattle.pd_sections.specs.declared.TokenKind.{TokenKind}
 use Rattle.pd_sections.specs.declared.Piece.{Piece}
 use Rattle.pd_sections.specs.declared.Piece.TheVariants.{Blank, Word, Fault}
 use Rattle.pd_sections.specs.declared.Refusal.{Refusal}
-use Rattle.pd_sections.specs.Lexing.{Language, IsLongest, StartsNoPiece, Lexes, at_end, past_blank, past_token, Offends, in_fault, starts_none, behind_blank, behind_token, InOrder}
+use Rattle.pd_sections.specs.Lexing.{Language, IsLongest, StartsNoPiece, Lexes, at_end, past_blank, past_token, Offends, in_fault, starts_none, behind_blank, behind_token}
 
 -- of two longest pieces none is longer
 not_longer : (f : Language) (bytes : List ℕ) (p q : Piece) (n m : ℕ) → IsLongest f bytes p n → IsLongest f bytes q m → n < m → ⊥
@@ -15,10 +14,10 @@ not_longer f bytes p q n m a b l = let e : f (take m bytes) ≡ None = a.longest
 same_length : (f : Language) (bytes : List ℕ) (p q : Piece) (n m : ℕ) → IsLongest f bytes p n → IsLongest f bytes q m → n ≡ m
 same_length f bytes p q n m a b =
     elim (cases_lt n m) [
-      inl l ↦ absurd (not_longer f bytes p q n m a b l)
-    | inr l ↦ elim (cases_lt m n) [
-        inl k ↦ absurd (not_longer f bytes q p m n b a k)
-      | inr k ↦ omega arith
+      | inl l ↦ absurd (not_longer f bytes p q n m a b l)
+      | inr l ↦ elim (cases_lt m n) [
+        | inl k ↦ absurd (not_longer f bytes q p m n b a k)
+        | inr k ↦ omega arith
       ]
     ]
 
@@ -57,7 +56,7 @@ splits_once f {at} {bytes} (past_token {tokens = xs} {kind = k} n a r) (past_tok
 
 -- what splits doesn't offend
 pub splits_or_offends : (f : Language) {at : ℕ} {bytes : List ℕ} {tokens : List Token} {refusal : Refusal}
-  → Lexes f at bytes tokens → Offends f at bytes refusal → ⊥
+    → Lexes f at bytes tokens → Offends f at bytes refusal → ⊥
 splits_or_offends f at_end (in_fault n b) = no_piece_of_none f _ n b
 splits_or_offends f at_end (behind_blank n b s) = no_piece_of_none f _ n b
 splits_or_offends f at_end (behind_token n b s) = no_piece_of_none f _ n b

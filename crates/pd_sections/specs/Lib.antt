@@ -1,5 +1,8 @@
+pub mod Pieces
+pub mod Lexing
+pub mod Pl0Pieces
 pub mod Positions
+pub mod Refusing
+pub mod SlPieces
 pub mod Starts
 pub mod Written
-pub mod Lexing
-pub mod Refusing

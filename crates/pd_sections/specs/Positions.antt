@@ -1,6 +1,6 @@
 -- Lines and columns, by counting the line ends that lie wholly before a place.
 -- `\n` (10), `\r\n` (13, 10) and `\r` (13) each end a line. Between the two bytes of `\r\n` the line hasn't ended.
-use Rattle.std.specs.Prelude.{ℕ, ◌+◌, suc, zero, Bool, true, false, ◌&&◌, ◌||◌, ◌==◌, not, if◌then◌else◌, List, [], ◌∷◌}
+use Rattle.std.specs.Prelude.{ℕ, ◌+◌, suc, zero, Bool, false, ◌&&◌, ◌||◌, ◌==◌, not, if◌then◌else◌, List, [], ◌∷◌}
 
 -- the bytes begin with `\n`
 abbrev pub starts_with_newline : List ℕ → Bool

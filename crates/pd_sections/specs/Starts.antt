@@ -7,7 +7,7 @@ use Rattle.pd_sections.specs.Positions.{ends_line, line_ends, after_line_end}
 abbrev pub starts_behind : ℕ → List ℕ → List ℕ
 starts_behind place [] = []
 starts_behind place (byte ∷ bytes) =
-  if ends_line byte bytes then suc place ∷ starts_behind (suc place) bytes else starts_behind (suc place) bytes
+    if ends_line byte bytes then suc place ∷ starts_behind (suc place) bytes else starts_behind (suc place) bytes
 
 -- what a source keeps: text of at most 1,048,576 bytes, and the starts of its lines
 pub record IsKept (bytes table : List ℕ) : Type 0 where

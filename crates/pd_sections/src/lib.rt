@@ -1,11 +1,12 @@
 //! Sources with their lines and columns, and what lexers and parsers share.
 #![tactic(auto)]
 
-ghost use Rattle.std.specs.Prelude.{◌≡◌, ℕ, List, ◌+◌, ◌<◌, ◌≤◌, ◌^◌, ◌∷◌, length, take, drop, string_bytes, vec_len, IfOk, IfErr, IsTrue, ◌↔◌, slice_get, Some};
+ghost use Rattle.std.specs.Prelude.{◌≡◌, ℕ, List, ◌+◌, ◌<◌, ◌≤◌, ◌^◌, ◌∷◌, length, take, drop, string_bytes, vec_len, IfOk, IfErr, IfSome, IfNone, IsTrue, ◌↔◌, slice_get, Some};
 ghost use Rattle.std.specs.Str.{IsUtf8, IsValidUpTo};
 ghost use Rattle.pd_sections.specs.Positions.{ends_line, starts_with_newline, line_at, column_at};
 ghost use Rattle.pd_sections.specs.Starts.{starts_behind, IsKept, IsLine};
 ghost use Rattle.pd_sections.specs.Refusing.{IsNotUtf8};
+ghost use Rattle.pd_sections.specs.Lexing.{Language, IsLongest, StartsNoPiece, Lexes, Offends, Splits, StopsAt, FaultWithin};
 
 use std::alloc::{AllocError, AllocFailed, Global};
 use std::marker::Model;
@@ -247,6 +248,62 @@ impl Source {
     }
 }
 
+/// A language as a lexer knows it.
+pub trait Lexicon {
+    // What some bytes are as a whole.
+    ghost piece_of: { Language };
+
+    /// The longest piece that the bytes begin with, and its length, if they begin with one.
+    fn longest(bytes: &[u8]) -> Option<(Piece, u32)>
+        requires { length bytes.now ≤ MOST_BYTES }
+        ensures some { IfSome result (λ found. IsLongest piece_of bytes.now found.0 found.1) }
+        ensures fault { IfSome result (λ found. FaultWithin found.0 found.1) }
+        ensures none { IfNone result (StartsNoPiece piece_of bytes.now) };
+}
+
+/// The tokens of a source, or its first offending place.
+pub fn split<L: Lexicon>(alloc: Global, source: &Source) -> Result<Tokens, Stop<Refusal>>
+    ensures tokens { IfOk result (Splits L.piece_of source.now.bytes) }
+    ensures refused { IfErr result (StopsAt L.piece_of source.now.bytes) }
+{
+    let bytes = source.bytes();
+    let mut tokens = Vec::new(alloc);
+    let mut at = 0;
+    while at < bytes.len() {
+        let place = at as u32;
+        let (_, rest) = bytes.split_at(at);
+        let Some((piece, len)) = L::longest(rest) else {
+            return Err(Stop::Refused(Refusal {
+                rule: Rule::BadByte,
+                at: place,
+            }));
+        };
+        match piece {
+            Piece::Blank => {}
+            Piece::Word(kind) => tokens.push(Token {
+                kind,
+                start: place,
+                len,
+            })?,
+            Piece::Fault { rule, behind } => {
+                return Err(Stop::Refused(Refusal {
+                    rule,
+                    at: place + behind,
+                }));
+            }
+        }
+        at += len as usize;
+    }
+    Ok(Tokens::of(tokens))
+}
+
+/// In each language a text splits into tokens in one way at most, has one first offending place at most, and never both.
+pub fn splitting_law()
+    ensures tokens { (f : Language) (at : ℕ) (bytes : List ℕ) (xs ys : List Token) → Lexes f at bytes xs → Lexes f at bytes ys → xs ≡ ys }
+    ensures refusal { (f : Language) (at : ℕ) (bytes : List ℕ) (x y : Refusal) → Offends f at bytes x → Offends f at bytes y → x ≡ y }
+    ensures never_both { (f : Language) (at : ℕ) (bytes : List ℕ) (xs : List Token) (x : Refusal) → Lexes f at bytes xs → Offends f at bytes x → ⊥ }
+{}
+
 /// Whether a line end ends with this byte, where these bytes come next.
 fn ends_line(byte: u8, next: &[u8]) -> bool
     ensures { result ≡ ends_line byte next.now }
@@ -279,3 +336,6 @@ fn lines_begun(starts: &[u32], at: u32) -> usize
 {
     starts.partition_point(|start| *start <= at)
 }
+
+#[cfg(test)]
+mod tests;
