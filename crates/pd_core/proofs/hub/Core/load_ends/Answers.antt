@@ -1,0 +1,26 @@
+use Rattle.std.proofs.Common.{◌≡◌, ℕ, arith, refl, sym, ap, ◌∙◌}
+use Rattle.pd_core.specs.Layout.{Layout, session_at, end_at}
+use Rattle.pd_core.specs.Tokens.{Hub, Holder}
+use Rattle.pd_core.specs.Kinds.{May, word_of, load_ends}
+use Rattle.pd_core.proofs.Admitted.{admitted_at, told, inside, found_out}
+use Rattle.pd_core.proofs.hub.Core.load_ends.Goals as goal
+
+pub read-requires : goal.read-requires
+read-requires c =
+    let same : c.self.inside.table.shared.key ≡ c.args.self.now.layout = ap (λ (h : Hub). h.layout) c.self.view_is in
+    let may : May c.self.inside.table.shared.key load_ends c.p.inside.seat.me.0 = inside load_ends _ _ _ _ (ap (λ (h : Hub). h.layout) c.self.view_is) (ap (λ (h : Holder). h.view) c.p.view_is) c.requires.1 in
+    let there : c.session_word-word.result ≡ word_of c.self.inside.table.shared.key load_ends = (c.session_word-word.ensures ∙ ap (λ (s : ℕ). session_at c.args.self.now.layout s) (c.self.invariant.5 ∙ ap (λ (h : Hub). h.layout.sessions) c.self.view_is)) ∙ ap (λ (p : Layout). end_at p) (sym same) in (
+      ap (λ (h : Holder). h.id) c.p.view_is ∙ (c.requires.0 ∙ sym (ap (λ (h : Hub). h.id) c.self.view_is)),
+      omega (arith, c.self.invariant.1, there),
+      refl,
+      admitted_at _ load_ends _ _ _ _ there c.p.invariant.1 may,
+    )
+
+pub returns-clause-view : goal.returns-clause-view
+returns-clause-view c = told load_ends _ _ _ c.read.result _ _ _ _ _ c.read.ensures (c.session_word-word.ensures ∙ ap (λ (s : ℕ). session_at c.args.self.now.layout s) (c.self.invariant.5 ∙ ap (λ (h : Hub). h.layout.sessions) c.self.view_is)) c.p.view_is (ap (λ (h : Hub). h.layout) c.self.view_is)
+
+pub returns-clause-found : goal.returns-clause-found
+returns-clause-found c = found_out load_ends _ _ _ _ _ (ap (λ (h : Hub). h.layout) c.self.view_is) (ap (λ (h : Holder). h.view) c.p.view_is) c.read.ensures.1.1
+
+pub session_word-word-requires : goal.session_word-word-requires
+session_word-word-requires c = omega (arith, (c.self.invariant.5 ∙ ap (λ (h : Hub). h.layout.sessions) c.self.view_is))

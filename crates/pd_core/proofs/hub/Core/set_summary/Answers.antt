@@ -1,0 +1,23 @@
+use Rattle.std.proofs.Common.{◌≡◌, arith, refl, sym, ap, ◌∙◌}
+use Rattle.pd_core.specs.Tokens.{Hub, Holder}
+use Rattle.pd_core.specs.Kinds.{May, word_of, set_summary}
+use Rattle.pd_core.proofs.Admitted.{admitted_at, told, inside, found_out}
+use Rattle.pd_core.proofs.Places.{node_inside}
+use Rattle.pd_core.proofs.hub.Core.set_summary.Goals as goal
+
+pub set-requires : goal.set-requires
+set-requires c =
+    let same : c.self.inside.table.shared.key ≡ c.args.self.now.layout = ap (λ (h : Hub). h.layout) c.self.view_is in
+    let may : May c.self.inside.table.shared.key (set_summary c.args.n c.args.r) c.p.inside.seat.me.0 = inside (set_summary c.args.n c.args.r) _ _ _ _ (ap (λ (h : Hub). h.layout) c.self.view_is) (ap (λ (h : Holder). h.view) c.p.view_is) c.requires.1 in
+    let there : c.args.n ≡ word_of c.self.inside.table.shared.key (set_summary c.args.n c.args.r) = refl in (
+      ap (λ (h : Holder). h.id) c.p.view_is ∙ (c.requires.0 ∙ sym (ap (λ (h : Hub). h.id) c.self.view_is)),
+      omega (arith, c.self.invariant.1, node_inside c.self.inside.table.shared.key c.args.n may.0.0),
+      refl,
+      admitted_at _ (set_summary c.args.n c.args.r) _ _ _ _ there c.p.invariant.1 may,
+    )
+
+pub returns-clause-view : goal.returns-clause-view
+returns-clause-view c = told (set_summary c.args.n c.args.r) _ _ _ c.set.result _ _ _ _ _ c.set.ensures refl c.p.view_is (ap (λ (h : Hub). h.layout) c.self.view_is)
+
+pub returns-clause-found : goal.returns-clause-found
+returns-clause-found c = found_out (set_summary c.args.n c.args.r) _ _ _ _ _ (ap (λ (h : Hub). h.layout) c.self.view_is) (ap (λ (h : Holder). h.view) c.p.view_is) c.set.ensures.1.1

@@ -1,0 +1,11 @@
+pub mod Layout
+pub mod Words
+pub mod Counts
+pub mod Talks
+pub mod Views
+pub mod Good
+pub mod Kinds
+pub mod Tokens
+pub mod Runs
+pub mod Steps
+pub mod Examples
