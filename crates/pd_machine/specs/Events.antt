@@ -4,6 +4,12 @@ use Rattle.pd_machine.specs.declared.run.Home.TheVariants.{InFrame, InMain}
 use Rattle.pd_machine.specs.declared.run.Frame.{Frame}
 use Rattle.std.specs.Prelude.{nat_lt, if◌then◌else◌, ℕ, zero, suc, ◌-◌, List, [], ◌∷◌, ◌++◌, length, take, slice_get, slice_set, slice_index_or, Option, None, Some}
 use Rattle.pd_values.specs.declared.value.Value.{Value}
+use Rattle.pd_values.specs.declared.value.Value.TheVariants.{Null}
+use Rattle.pd_values.specs.declared.value.End.{End}
+use Rattle.pd_values.specs.declared.value.End.TheVariants.{Done, Faulted, Exhausted, Killed}
+use Rattle.pd_machine.specs.declared.run.Cutoff.TheVariants.{SpentFuel, WasKilled}
+use Rattle.pd_machine.specs.declared.run.NodeResult.{NodeResult}
+use Rattle.pd_machine.specs.declared.run.NodeResult.TheVariants.{Gives, Faults, Stops}
 use Rattle.pd_machine.specs.declared.event.Event.{Event}
 use Rattle.pd_machine.specs.declared.event.EventKind.{EventKind}
 
@@ -37,6 +43,18 @@ change_at (x ∷ xs) (suc i) f = x ∷ change_at xs i f
 -- frame i, where 0 is the innermost
 abbrev pub frame_of : List Frame → ℕ → Option Frame
 frame_of frames i = if nat_lt i (length frames) then slice_get frames (length frames - suc i) else None
+
+-- frame k, where 0 is the innermost, counted from the outermost; a k past the outermost means the outermost
+abbrev pub from_outermost : List Frame → ℕ → ℕ
+from_outermost frames k = length frames - suc k
+
+abbrev pub root_of : Option Frame → Option ℕ
+root_of None = None
+root_of (Some f) = Some f.root
+
+abbrev pub at_of : Option Frame → Option ℕ
+at_of None = None
+at_of (Some f) = Some f.at
 
 abbrev pub variables_of : Option Frame → List Value
 variables_of None = []
@@ -80,3 +98,13 @@ pop_frame c = record c { frames = take (length c.frames - 1) c.frames }
 -- the state after an event: of this kind, of this node, whose Enter has the number `opened`
 abbrev pub tell : ℕ → ℕ → EventKind → State → State
 tell n opened kind s = record s { events = s.events ++ record { event = record { number = length s.events; kind = kind; node = n; opened = opened; depth = length s.scene.frames }; scene = standing n s.scene } ∷ [] }
+
+-- ---- the end
+
+-- a jump ends at a body and an unwinding at a frame, so neither comes out of the entry
+abbrev pub end_of : NodeResult → End
+end_of (Gives a) = Done a
+end_of (Faults f n) = Faulted f n
+end_of (Stops SpentFuel) = Exhausted
+end_of (Stops WasKilled) = Killed
+end_of _ = Done Null

@@ -1,5 +1,8 @@
 //! What a run is made of: results of nodes, frames, and what waits on the machine's stack.
+ghost use Rattle.std.specs.Prelude.{◌≡◌, IfOk};
+
 use pd_values::{Fault, Items, NodeId, Value};
+use std::alloc::{AllocError, Global};
 
 /// What stops a run before its end.
 #[derive(Clone, Copy, Drop)]
@@ -45,8 +48,8 @@ pub struct Frame {
 pub enum Pending {
     /// An open activation of a node with tags, and the number of its Enter.
     Leaving(NodeId, u32),
-    /// A node with the values of its parts so far, and its parts after the one that runs.
-    Operand(NodeId, Items<Value>, Items<NodeId>),
+    /// A node with the values of its parts so far, and the place of the part after the one that runs.
+    Operand(NodeId, Items<Value>, usize),
     /// An SL body, which takes a return.
     Catching,
     /// An `if` whose condition runs, with its block, or with both its blocks.
@@ -72,4 +75,29 @@ pub enum Mode {
     Entering(NodeId),
     Starting(NodeId),
     Coming(NodeResult),
+}
+
+impl Frame {
+    /// A second frame with the same content.
+    pub fn copy(&self, alloc: Global) -> Result<Frame, AllocError>
+        ensures { IfOk result (λ f. f ≡ self.now) }
+    {
+        Ok(Frame {
+            root: self.root,
+            at: self.at,
+            variables: copied(alloc, self.variables.as_slice())?,
+            blocks: Items::of(Vec::from_slice(alloc, self.blocks.as_slice())?),
+        })
+    }
+}
+
+/// Second values with the same content.
+fn copied(alloc: Global, values: &[Value]) -> Result<Items<Value>, AllocError>
+    ensures { IfOk result (λ xs. xs ≡ values.now) }
+{
+    let mut copies = Vec::with_capacity(alloc, values.len())?;
+    for value in values {
+        copies.push(value.copy()?)?;
+    }
+    Ok(Items::of(copies))
 }

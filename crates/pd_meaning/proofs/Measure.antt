@@ -8,7 +8,7 @@ use Rattle.pd_machine.specs.declared.run.Pending.TheVariants.{Leaving, Operand, 
 use Rattle.pd_machine.specs.declared.run.Mode.{Mode}
 use Rattle.pd_machine.specs.declared.run.Mode.TheVariants.{Entering, Starting, Coming}
 use Rattle.std.proofs.Common.{◌≡◌, ℕ, zero, suc, ◌+◌, ◌*◌, ◌≤◌, ◌<◌, Bool, true, false, List, [], ◌∷◌, ◌++◌, length, Option, Some, None, Result, Ok, Err, refl, arith}
-use Rattle.std.specs.Prelude.{nat_lt, nat_le, cond, ◌^◌, ◌==◌}
+use Rattle.std.specs.Prelude.{nat_lt, nat_le, cond, slice_get, ◌^◌, ◌==◌}
 use Rattle.pd_values.specs.declared.value.Value.{Value}
 use Rattle.pd_values.specs.declared.value.Value.TheVariants.{Bool as Truth, Null, Func}
 use Rattle.pd_values.specs.declared.value.Fault.{Fault}
@@ -24,32 +24,13 @@ use Rattle.pd_machine.specs.declared.event.Verdict.TheVariants.{Go, Reenter, Ret
 use Rattle.pd_values.specs.Operators.{show}
 use Rattle.pd_tree.specs.Program.{Program, Node, node_at, item_at, item_names}
 use Rattle.pd_machine.specs.Events.{State, tell}
-use Rattle.pd_meaning.specs.Meaning.{Verdicts, Outcome, ends, verdict_on, popped, first_or_null, first_variables, frame_for, combined, written}
-use Rattle.pd_meaning.specs.Machine.{Machine, machine, settled, obeyed, entered, entering_turn, depth_checked, arguments_checked, item_called, value_called, name_called, combining, parts_begun, last_begun, choice_begun, loop_begun, either_begun, starting_turn, by_truth, call_again, value_came, other_came, coming_turn, mode_turn, turn}
+use Rattle.pd_meaning.specs.Meaning.{Verdicts, Outcome, ends, verdict_on, popped, first_or_null, first_variables, frame_for, most_frames, combined, written}
+use Rattle.pd_meaning.specs.Machine.{Machine, machine, settled, obeyed, entered, entering_turn, depth_checked, arguments_checked, item_called, value_called, name_called, combining, part_begun, parts_begun, last_begun, choice_begun, loop_begun, either_begun, starting_turn, by_truth, call_again, value_came, other_came, coming_turn, mode_turn, turn}
 use Rattle.pd_meaning.specs.Machine.{whole}
+use Rattle.pd_meaning.specs.Weight.{pending_weight, stack_weight, mode_weight, weight_of, weight}
+use Rattle.pd_machine.specs.Held.{IsOverAt}
 use Rattle.pd_meaning.proofs.Bounds.{left_of, combined_agrees}
 use Rattle.pd_meaning.proofs.Simulation.{IsOther, same_whole}
-
-abbrev pending_weight : Pending → ℕ
-pending_weight (Operand n values rest) = 2
-pending_weight _ = 1
-
-abbrev stack_weight : List Pending → ℕ
-stack_weight [] = 0
-stack_weight (x ∷ xs) = pending_weight x + stack_weight xs
-
--- once a stop comes no node is entered any more
-abbrev mode_weight : Mode → ℕ
-mode_weight (Entering n) = 6
-mode_weight (Starting n) = 10
-mode_weight (Coming (Stops x)) = 1
-mode_weight (Coming _) = 7
-
-abbrev weight_of : Mode → List Pending → State → ℕ
-weight_of mode stack s = 6 * s.left + stack_weight stack + mode_weight mode
-
-abbrev pub weight : Machine → ℕ
-weight m = weight_of m.mode m.stack m.state
 
 coming_le : (r : NodeResult) → mode_weight (Coming r) ≤ 7
 coming_le (Stops x) = omega arith
@@ -66,7 +47,7 @@ settled_le stack (ends r s) = omega (arith, coming_le r)
 settled_below : (stack : List Pending) (o : Outcome) (l : ℕ) → left_of o ≤ l → weight (settled stack o) ≤ 6 * l + stack_weight stack + 7
 settled_below stack o l h = omega (arith, settled_le stack o)
 
-obeyed_le : (w : Verdict) (m : Machine) → 7 ≤ mode_weight m.mode → weight (obeyed w m) ≤ weight m
+pub obeyed_le : (w : Verdict) (m : Machine) → 7 ≤ mode_weight m.mode → weight (obeyed w m) ≤ weight m
 obeyed_le Go m h = omega arith
 obeyed_le (Reenter k) m h = omega arith
 obeyed_le (Return k a) m h = omega arith
@@ -90,7 +71,7 @@ module _ (p : Program) (v : Verdicts) where
 
   arguments_le : (n root : ℕ) (node : Node) (x : Result (List Value) Fault) (stack : List Pending) (s : State) → Below 7 (arguments_checked n root node x stack s) stack s
   arguments_le n root node (Err f) stack s = omega arith
-  arguments_le n root node (Ok vs) stack s = depth_le (nat_lt (length s.scene.frames) 2000) n (frame_for root node vs s.scene) stack s
+  arguments_le n root node (Ok vs) stack s = depth_le (nat_lt (length s.scene.frames) most_frames) n (frame_for root node vs s.scene) stack s
 
   item_le : (n : ℕ) (root : Option ℕ) (arguments : List Value) (stack : List Pending) (s : State) → Below 7 (item_called p n root arguments stack s) stack s
   item_le n None arguments stack s =
@@ -114,9 +95,12 @@ module _ (p : Program) (v : Verdicts) where
   combining_le n (PlCall x) values stack s = name_called_le n (node_at p n).meaning stack s
   combining_le n kind values stack s = let h = settled_below stack (combined p 0 (λ m u. ends (Stops SpentFuel) u) n kind values s) s.left (combined_left n kind values s) in omega arith
 
-  parts_le : (n : ℕ) (ms : List ℕ) (values : List Value) (stack : List Pending) (s : State) → Below 8 (parts_begun p n ms values stack s) stack s
-  parts_le n [] values stack s = combining_le n (node_at p n).kind values stack s
-  parts_le n (m ∷ ms) values stack s = omega arith
+  part_le : (n i : ℕ) (x : Option ℕ) (values : List Value) (stack : List Pending) (s : State) → Below 8 (part_begun p n i x values stack s) stack s
+  part_le n i None values stack s = combining_le n (node_at p n).kind values stack s
+  part_le n i (Some m) values stack s = omega arith
+
+  parts_le : (n : ℕ) (ms : List ℕ) (i : ℕ) (values : List Value) (stack : List Pending) (s : State) → Below 8 (parts_begun p n ms i values stack s) stack s
+  parts_le n ms i values stack s = part_le n i (slice_get ms i) values stack s
 
   last_le : (ms : List ℕ) (stack : List Pending) (s : State) → Below 7 (last_begun ms stack s) stack s
   last_le [] stack s = omega arith
@@ -139,14 +123,14 @@ module _ (p : Program) (v : Verdicts) where
   starting_le : (n : ℕ) (kind : Kind) (ms : List ℕ) (stack : List Pending) (s : State) → Below 9 (starting_turn p n kind ms stack s) stack s
   starting_le n (SlFunction name parameters) ms stack s = omega (arith, last_le ms stack s)
   starting_le n (PlProcedure name variables) ms stack s = omega (arith, last_le ms stack s)
-  starting_le n SlBody ms stack s = omega (arith, parts_le n ms [] (Catching ∷ stack) s)
+  starting_le n SlBody ms stack s = omega (arith, parts_le n ms 0 [] (Catching ∷ stack) s)
   starting_le n SlIf ms stack s = omega (arith, choice_le n ms stack s)
   starting_le n PlIf ms stack s = omega (arith, choice_le n ms stack s)
   starting_le n SlWhile ms stack s = omega (arith, loop_le n ms stack s)
   starting_le n PlWhile ms stack s = omega (arith, loop_le n ms stack s)
   starting_le n SlOr ms stack s = omega (arith, either_le true n ms stack s)
   starting_le n SlAnd ms stack s = omega (arith, either_le false n ms stack s)
-  starting_le n kind ms stack s = omega (arith, parts_le n ms [] stack s)
+  starting_le n kind ms stack s = omega (arith, parts_le n ms 0 [] stack s)
 
   truth_le : (k n : ℕ) (a : Value) (m m' : Machine) (stack : List Pending) (s : State) → 7 ≤ k → Below k m stack s → Below k m' stack s → Below k (by_truth n a m m' stack s) stack s
   truth_le k n (Truth true) m m' stack s le h g = h
@@ -156,7 +140,7 @@ module _ (p : Program) (v : Verdicts) where
   value_le : (x : Pending) (a : Value) (stack : List Pending) (s : State) → weight (value_came p v x a stack s) < 6 * s.left + (pending_weight x + stack_weight stack) + 7
   value_le (Leaving n opened) a stack s =
       let h = obeyed_le (verdict_on p v n Call (length s.events)) (machine (Coming (Gives a)) stack (tell n opened (Gave a) s)) (omega arith) in omega arith
-  value_le (Operand n values ms) a stack s = omega (arith, parts_le n ms (values ++ a ∷ []) stack s)
+  value_le (Operand n values i) a stack s = omega (arith, parts_le n (node_at p n).children i (values ++ a ∷ []) stack s)
   value_le Catching a stack s = omega arith
   value_le (Choosing n block) a stack s = let h = truth_le 7 n a (machine (Entering block) stack s) (machine (Coming (Gives Null)) stack s) stack s (omega arith) (omega arith) (omega arith) in omega arith
   value_le (ChoosingBetween n block other) a stack s = let h = truth_le 7 n a (machine (Entering block) stack s) (machine (Entering other) stack s) stack s (omega arith) (omega arith) (omega arith) in omega arith
@@ -197,11 +181,6 @@ module _ (p : Program) (v : Verdicts) where
   other_result_le (InCall k f) _ h stack s = omega arith
   other_result_le Dropping (Gives a) h stack s = absurd h
   other_result_le Dropping _ h stack s = omega arith
-
-  -- a result that came to the end of the stack
-  abbrev pub IsOverAt : Mode → List Pending → Type 0
-  IsOverAt (Coming r) [] = Unit {0}
-  IsOverAt _ _ = ⊥
 
   coming_lowers : (r : NodeResult) (stack : List Pending) (s : State) → (IsOverAt (Coming r) stack → ⊥) → weight (coming_turn p v r stack s) < weight_of (Coming r) stack s
   coming_lowers r [] s going = absurd (going tt)

@@ -7,8 +7,8 @@ use Rattle.pd_machine.specs.declared.run.Pending.{Pending}
 use Rattle.pd_machine.specs.declared.run.Pending.TheVariants.{Leaving, Operand, Catching, Choosing, ChoosingBetween, Testing, Turning, LeftSide, RightSide, InCall, Dropping}
 use Rattle.pd_machine.specs.declared.run.Mode.{Mode}
 use Rattle.pd_machine.specs.declared.run.Mode.TheVariants.{Entering, Starting, Coming}
-use Rattle.std.proofs.Common.{◌≡◌, ℕ, zero, suc, ◌≤◌, Bool, true, false, List, [], ◌∷◌, ◌++◌, length, Option, Some, None, Result, Ok, Err, refl, sym, ap, ◌∙◌, arith}
-use Rattle.std.specs.Prelude.{nat_lt, ◌==◌}
+use Rattle.std.proofs.Common.{◌≡◌, ℕ, zero, suc, ◌+◌, ◌≤◌, Bool, true, false, List, [], ◌∷◌, ◌++◌, length, Option, Some, None, Result, Ok, Err, refl, sym, ap, ◌∙◌, subst, arith}
+use Rattle.std.specs.Prelude.{nat_lt, ◌==◌, drop, slice_get, MatchOption}
 use Rattle.pd_values.specs.declared.value.Value.{Value}
 use Rattle.pd_values.specs.declared.value.Value.TheVariants.{Bool as Truth, Null, Func}
 use Rattle.pd_values.specs.declared.value.Fault.{Fault}
@@ -25,14 +25,28 @@ use Rattle.pd_machine.specs.declared.event.Verdict.TheVariants.{Go, Reenter, Ret
 use Rattle.pd_values.specs.Operators.{show}
 use Rattle.pd_tree.specs.Program.{Program, Node, node_at, item_at, item_names}
 use Rattle.pd_machine.specs.Events.{State, push_frame, standing, tell}
-use Rattle.pd_meaning.specs.Meaning.{Verdicts, Outcome, ends, Run, with_fuel, verdict_on, heed, exit, activation, parts, on_truth, last_part, caught, choice, turns, loop, either_side, popped, invoked, first_or_null, first_variables, frame_for, called_with, called, sl_call, pl_call, combined, inside, evaluated, written}
-use Rattle.pd_meaning.specs.Machine.{Machine, machine, settled, obeyed, entered, entering_turn, call_begun, depth_checked, arguments_checked, item_called, value_called, name_called, combining, parts_begun, last_begun, choice_begun, loop_begun, either_begun, starting_turn, by_truth, call_again, value_came, other_came, coming_turn, mode_turn, turn, whole, resumed, completion, mode_outcome, point}
+use Rattle.pd_meaning.specs.Meaning.{Verdicts, Outcome, ends, Run, with_value, with_fuel, verdict_on, heed, exit, activation, parts, on_truth, last_part, caught, choice, turns, loop, either_side, popped, invoked, first_or_null, first_variables, frame_for, most_frames, called_with, called, sl_call, pl_call, combined, inside, evaluated, written}
+use Rattle.pd_meaning.specs.Machine.{Machine, machine, settled, obeyed, entered, entering_turn, call_begun, depth_checked, arguments_checked, item_called, value_called, name_called, combining, part_begun, parts_begun, last_begun, choice_begun, loop_begun, either_begun, starting_turn, by_truth, call_again, value_came, other_came, coming_turn, mode_turn, turn, whole, resumed, completion, mode_outcome, point}
 use Rattle.pd_meaning.proofs.Bounds.{weaker, SameRuns, Follows, ends_agrees, value_agrees, truth_agrees, activation_agrees, turn_agrees, returned_agrees, part_agrees, parts_agrees, combined_agrees, inside_agrees, turns_agrees, invoked_agrees, starved_fuel, starved, fuel_agrees, evaluated_agrees}
 
 -- a result other than a value
 abbrev pub IsOther : NodeResult → Type 0
 IsOther (Gives a) = ⊥
 IsOther _ = Unit {0}
+
+drop-zero : (xs : List ℕ) → drop 0 xs ≡ xs
+drop-zero [] = refl
+drop-zero (x ∷ xs) = refl
+
+-- a list from a place on begins with the item there
+front_of : (xs : List ℕ) (i : ℕ) → MatchOption (slice_get xs i) (drop i xs ≡ []) (λ m. drop i xs ≡ m ∷ drop (i + 1) xs)
+front_of [] zero = refl
+front_of [] (suc i) = refl
+front_of (x ∷ xs) zero = refl
+front_of (x ∷ xs) (suc i) =
+    let e : suc (i + 1) ≡ suc i + 1 = omega arith in
+    let P : ℕ → Type 0 = λ k. MatchOption (slice_get xs i) (drop i xs ≡ []) (λ m. drop i xs ≡ m ∷ drop k (x ∷ xs)) in
+    subst P e (front_of xs i)
 
 module _ (p : Program) (v : Verdicts) where
   -- ---- the meaning without bounds
@@ -111,7 +125,7 @@ module _ (p : Program) (v : Verdicts) where
 
   at_arguments : (n root : ℕ) (node : Node) (x : Result (List Value) Fault) (stack : List Pending) (s : State) → at_point (arguments_checked n root node x stack s) ≡ done stack (called_with s.left W n root node x s)
   at_arguments n root node (Err f) stack s = refl
-  at_arguments n root node (Ok vs) stack s = at_depth (nat_lt (length s.scene.frames) 2000) n (frame_for root node vs s.scene) stack s
+  at_arguments n root node (Ok vs) stack s = at_depth (nat_lt (length s.scene.frames) most_frames) n (frame_for root node vs s.scene) stack s
 
   at_item : (n : ℕ) (root : Option ℕ) (arguments : List Value) (stack : List Pending) (s : State) → at_point (item_called p n root arguments stack s) ≡ done stack (called p s.left W n root arguments s)
   at_item n None arguments stack s = at_settled stack (written n (show (item_names p) (first_or_null arguments)) (first_or_null arguments) s)
@@ -130,13 +144,24 @@ module _ (p : Program) (v : Verdicts) where
   at_combining n (PlCall x) values stack s = at_name_called n (node_at p n).meaning stack s
   at_combining n kind values stack s = at_settled stack (combined p 0 (λ m u. ends (Stops SpentFuel) u) n kind values s)
 
-  at_parts : (n : ℕ) (ms : List ℕ) (values : List Value) (stack : List Pending) (s : State) → at_point (parts_begun p n ms values stack s) ≡ done stack (parts W ms values (λ vs u. combined p u.left W n (node_at p n).kind vs u) s)
-  at_parts n [] values stack s = at_combining n (node_at p n).kind values stack s
-  at_parts n (m ∷ ms) values stack s = refl
+  -- the parts from a place on are the part there, and those after it
+  at_part : (n i : ℕ) (ms : List ℕ) → ms ≡ (node_at p n).children → (x : Option ℕ) → MatchOption x (drop i ms ≡ []) (λ m. drop i ms ≡ m ∷ drop (i + 1) ms) → (values : List Value) (stack : List Pending) (s : State) → at_point (part_begun p n i x values stack s) ≡ done stack (parts W (drop i ms) values (λ vs u. combined p u.left W n (node_at p n).kind vs u) s)
+  at_part n i ms e None h values stack s =
+      at_combining n (node_at p n).kind values stack s ∙ ap (λ xs. done stack (parts W xs values (λ vs u. combined p u.left W n (node_at p n).kind vs u) s)) (sym h)
+  at_part n i ms e (Some m) h values stack s =
+      ap (λ xs. done stack (with_value (W m s) (λ a t. parts W (drop (i + 1) xs) (values ++ a ∷ []) (λ vs u. combined p u.left W n (node_at p n).kind vs u) t))) (sym e)
+      ∙ ap (λ xs. done stack (parts W xs values (λ vs u. combined p u.left W n (node_at p n).kind vs u) s)) (sym h)
 
-  at_operands : (n : ℕ) (kind : Kind) → kind ≡ (node_at p n).kind → (ms : List ℕ) (stack : List Pending) (s : State) → at_point (parts_begun p n ms [] stack s) ≡ done stack (parts W ms [] (combined p s.left W n kind) s)
-  at_operands n kind e ms stack s =
-      at_parts n ms [] stack s ∙ ap (done stack) (sym (parts_whole n (node_at p n).kind ms [] s)) ∙ ap (λ k. done stack (parts W ms [] (combined p s.left W n k) s)) (sym e)
+  at_parts : (n i : ℕ) (values : List Value) (stack : List Pending) (s : State) → at_point (parts_begun p n (node_at p n).children i values stack s) ≡ done stack (parts W (drop i (node_at p n).children) values (λ vs u. combined p u.left W n (node_at p n).kind vs u) s)
+  at_parts n i values stack s =
+      at_part n i (node_at p n).children refl (slice_get (node_at p n).children i) (front_of (node_at p n).children i) values stack s
+
+  at_operands : (n : ℕ) (kind : Kind) → kind ≡ (node_at p n).kind → (ms : List ℕ) → ms ≡ (node_at p n).children → (stack : List Pending) (s : State) → at_point (parts_begun p n ms 0 [] stack s) ≡ done stack (parts W ms [] (combined p s.left W n kind) s)
+  at_operands n kind e ms c stack s =
+      ap (λ xs. at_point (parts_begun p n xs 0 [] stack s)) c
+      ∙ at_parts n 0 [] stack s
+      ∙ ap (λ xs. done stack (parts W xs [] (λ vs u. combined p u.left W n (node_at p n).kind vs u) s)) (drop-zero (node_at p n).children ∙ sym c)
+      ∙ ap (done stack) (sym (parts_whole n (node_at p n).kind ms [] s)) ∙ ap (λ k. done stack (parts W ms [] (combined p s.left W n k) s)) (sym e)
 
   at_last : (ms : List ℕ) (stack : List Pending) (s : State) → at_point (last_begun ms stack s) ≡ done stack (last_part W ms s)
   at_last [] stack s = refl
@@ -157,17 +182,17 @@ module _ (p : Program) (v : Verdicts) where
   at_either false n (l ∷ r ∷ []) stack s = refl
   at_either _ n _ stack s = refl
 
-  at_starting : (n : ℕ) (kind : Kind) → kind ≡ (node_at p n).kind → (ms : List ℕ) (stack : List Pending) (s : State) → at_point (starting_turn p n kind ms stack s) ≡ done stack (inside p s.left W n kind ms s)
-  at_starting n (SlFunction name parameters) e ms stack s = at_last ms stack s
-  at_starting n (PlProcedure name variables) e ms stack s = at_last ms stack s
-  at_starting n SlBody e ms stack s = at_operands n SlBody e ms (Catching ∷ stack) s
-  at_starting n SlIf e ms stack s = at_choice n ms stack s
-  at_starting n PlIf e ms stack s = at_choice n ms stack s
-  at_starting n SlWhile e ms stack s = at_loop n ms stack s
-  at_starting n PlWhile e ms stack s = at_loop n ms stack s
-  at_starting n SlOr e ms stack s = at_either true n ms stack s
-  at_starting n SlAnd e ms stack s = at_either false n ms stack s
-  at_starting n kind e ms stack s = at_operands n kind e ms stack s
+  at_starting : (n : ℕ) (kind : Kind) → kind ≡ (node_at p n).kind → (ms : List ℕ) → ms ≡ (node_at p n).children → (stack : List Pending) (s : State) → at_point (starting_turn p n kind ms stack s) ≡ done stack (inside p s.left W n kind ms s)
+  at_starting n (SlFunction name parameters) e ms c stack s = at_last ms stack s
+  at_starting n (PlProcedure name variables) e ms c stack s = at_last ms stack s
+  at_starting n SlBody e ms c stack s = at_operands n SlBody e ms c (Catching ∷ stack) s
+  at_starting n SlIf e ms c stack s = at_choice n ms stack s
+  at_starting n PlIf e ms c stack s = at_choice n ms stack s
+  at_starting n SlWhile e ms c stack s = at_loop n ms stack s
+  at_starting n PlWhile e ms c stack s = at_loop n ms stack s
+  at_starting n SlOr e ms c stack s = at_either true n ms stack s
+  at_starting n SlAnd e ms c stack s = at_either false n ms stack s
+  at_starting n kind e ms c stack s = at_operands n kind e ms c stack s
 
   at_truth : (n : ℕ) (a : Value) (m m' : Machine) (f f' : State → Outcome) (stack : List Pending) (s : State) → at_point m ≡ done stack (f s) → at_point m' ≡ done stack (f' s) → at_point (by_truth n a m m' stack s) ≡ done stack (on_truth n a f f' s)
   at_truth n (Truth true) m m' f f' stack s h k = h
@@ -177,7 +202,7 @@ module _ (p : Program) (v : Verdicts) where
   at_value : (x : Pending) (a : Value) (stack : List Pending) (s : State) → at_point (value_came p v x a stack s) ≡ done stack (resumed p v x (ends (Gives a) s))
   at_value (Leaving n opened) a stack s =
       at_obeyed (verdict_on p v n Call (length s.events)) (machine (Coming (Gives a)) stack (tell n opened (Gave a) s)) (λ t. ends (Gives a) t) refl
-  at_value (Operand n values ms) a stack s = at_parts n ms (values ++ a ∷ []) stack s
+  at_value (Operand n values i) a stack s = at_parts n i (values ++ a ∷ []) stack s
   at_value Catching a stack s = refl
   at_value (Choosing n block) a stack s = at_truth n a _ _ _ _ stack s refl refl
   at_value (ChoosingBetween n block other) a stack s = at_truth n a _ _ _ _ stack s refl refl
@@ -225,7 +250,7 @@ module _ (p : Program) (v : Verdicts) where
 
   at_mode : (mode : Mode) (stack : List Pending) (s : State) → at_point (mode_turn p v mode stack s) ≡ done stack (mode_outcome p v mode s)
   at_mode (Entering n) stack s = at_entering s.left n stack s ∙ ap (done stack) (sym (whole_unfolds n s))
-  at_mode (Starting n) stack s = at_starting n (node_at p n).kind refl (node_at p n).children stack s
+  at_mode (Starting n) stack s = at_starting n (node_at p n).kind refl (node_at p n).children refl stack s
   at_mode (Coming r) stack s = at_coming r stack s
 
   -- a turn keeps the outcome to which the machine leads

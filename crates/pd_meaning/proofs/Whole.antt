@@ -17,6 +17,8 @@ use Rattle.pd_tree.specs.Program.{Program, node_at, item_at, has_tag}
 use Rattle.pd_machine.specs.Events.{State, tell}
 use Rattle.pd_meaning.specs.Meaning.{Verdicts, ends, evaluated, verdict_at, verdict_on, ran, opening, entry_frame, from_root, meaning_of}
 use Rattle.pd_meaning.specs.Machine.{Machine, machine, obeyed, entered, entering_turn, value_came, other_came, coming_turn, mode_turn, turn, whole, point, start, after_turns}
+use Rattle.pd_meaning.specs.Leads.{AgreeBelow, AllBelow, LeadsUnder}
+use Rattle.pd_meaning.specs.Telling.{due_on_enter, due_on_value, due_at, due}
 use Rattle.pd_meaning.proofs.Bounds.{invoked_agrees}
 use Rattle.pd_meaning.proofs.Simulation.{bounded_whole, at_call, turn_keeps, IsOther}
 
@@ -31,7 +33,7 @@ module _ (p : Program) (v : Verdicts) where
   turns_keep zero m = refl
   turns_keep (suc k) m = turns_keep k (turn p v m) ∙ turn_keeps p v m
 
-  over_leads : (r : NodeResult) (s : State) → point p v (machine (Coming r) [] s) ≡ ends r s
+  pub over_leads : (r : NodeResult) (s : State) → point p v (machine (Coming r) [] s) ≡ ends r s
   unfolding point
   over_leads r s = refl
 
@@ -43,24 +45,6 @@ module _ (p : Program) (v : Verdicts) where
       ∙ ap (λ x. ran fuel (from_root p v fuel x)) (sym item)
 
 -- ---- verdicts that come one by one
-
--- the verdict that the run is given on the event which this turn tells, where it is one at which verdicts count
-abbrev pub due_on_enter : Program → Verdicts → ℕ → ℕ → List Tag → ℕ → Verdict
-due_on_enter p v zero n tags e = Go
-due_on_enter p v (suc left) n [] e = Go
-due_on_enter p v (suc left) n (t ∷ ts) e = verdict_on p v n Statement e
-
-abbrev pub due_on_value : Program → Verdicts → List Pending → ℕ → Verdict
-due_on_value p v (Leaving n opened ∷ stack) e = verdict_on p v n Call e
-due_on_value p v _ e = Go
-
-abbrev pub due_at : Program → Verdicts → Mode → List Pending → State → Verdict
-due_at p v (Entering n) stack s = due_on_enter p v s.left n (node_at p n).tags (length s.events)
-due_at p v (Coming (Gives a)) stack s = due_on_value p v stack (length s.events)
-due_at p v _ stack s = Go
-
-abbrev pub due : Program → Verdicts → Machine → Verdict
-due p v m = due_at p v m.mode m.stack m.state
 
 module _ (p : Program) (v : Verdicts) where
   no_verdict : (b : Bool) (m : Machine) → obeyed (cond b Go Go) m ≡ m
@@ -109,7 +93,7 @@ module _ (p : Program) (v : Verdicts) where
   on_other Dropping (Gives a) h stack s = absurd h
   on_other Dropping _ h stack s = refl
 
-  on_coming : (r : NodeResult) (stack : List Pending) (s : State) → coming_turn p v r stack s ≡ obeyed (due_at p v (Coming r) stack s) (coming_turn p [] r stack s)
+  on_coming : (r : NodeResult) (stack : List Pending) (s : State) → coming_turn p v r stack s ≡ obeyed (due_at p v (Coming r) stack s.left (length s.events)) (coming_turn p [] r stack s)
   on_coming (Gives a) [] s = refl
   on_coming _ [] s = refl
   on_coming (Gives a) (x ∷ stack) s = on_value x a stack s
@@ -120,7 +104,7 @@ module _ (p : Program) (v : Verdicts) where
   on_coming (Unwinds k a) (x ∷ stack) s = on_other x (Unwinds k a) tt stack s
   on_coming (Stops y) (x ∷ stack) s = on_other x (Stops y) tt stack s
 
-  on_mode : (mode : Mode) (stack : List Pending) (s : State) → mode_turn p v mode stack s ≡ obeyed (due_at p v mode stack s) (mode_turn p [] mode stack s)
+  on_mode : (mode : Mode) (stack : List Pending) (s : State) → mode_turn p v mode stack s ≡ obeyed (due_at p v mode stack s.left (length s.events)) (mode_turn p [] mode stack s)
   on_mode (Entering n) stack s = on_enter s.left n (node_at p n).tags stack s refl
   on_mode (Starting n) stack s = refl
   on_mode (Coming r) stack s = on_coming r stack s
@@ -141,7 +125,7 @@ module _ (p : Program) (v : Verdicts) where
   due_by_value u (Leaving n opened ∷ stack) e h = ap (λ w. cond (has_tag (node_at p n).tags Call) w Go) h
   due_by_value u (_ ∷ stack) e h = refl
 
-  due_by_mode : (u : Verdicts) (mode : Mode) (stack : List Pending) (s : State) → verdict_at v (length s.events) ≡ verdict_at u (length s.events) → due_at p v mode stack s ≡ due_at p u mode stack s
+  due_by_mode : (u : Verdicts) (mode : Mode) (stack : List Pending) (s : State) → verdict_at v (length s.events) ≡ verdict_at u (length s.events) → due_at p v mode stack s.left (length s.events) ≡ due_at p u mode stack s.left (length s.events)
   due_by_mode u (Entering n) stack s h = due_by_enter u s.left n (node_at p n).tags (length s.events) h
   due_by_mode u (Starting n) stack s h = refl
   due_by_mode u (Coming (Gives a)) stack s h = due_by_value u stack (length s.events) h
@@ -152,30 +136,17 @@ module _ (p : Program) (v : Verdicts) where
 
 -- ---- the list of verdicts that a watcher keeps
 
--- two lists say the same of the events below a number
-abbrev pub AgreeBelow : ℕ → Verdicts → Verdicts → Type 0
-AgreeBelow n v u = (e : ℕ) → e < n → verdict_at v e ≡ verdict_at u e
-
--- the events of a list are below a number
-abbrev pub AllBelow : ℕ → Verdicts → Type 0
-AllBelow n [] = Unit {0}
-AllBelow n (x ∷ xs) = (x.0 < n) × AllBelow n xs
-
-other_event : (kept : Verdicts) (e k : ℕ) (w : Verdict) → (e ≡ k → ⊥) → verdict_at (kept ++ (e, w) ∷ []) k ≡ verdict_at kept k
+pub other_event : (kept : Verdicts) (e k : ℕ) (w : Verdict) → (e ≡ k → ⊥) → verdict_at (kept ++ (e, w) ∷ []) k ≡ verdict_at kept k
 other_event [] e k w h = ap (λ b. cond b w Go) (ne_eqb e k h)
 other_event (x ∷ xs) e k w h = ap (λ r. cond (x.0 == k) x.1 r) (other_event xs e k w h)
 
-this_event : (kept : Verdicts) (e : ℕ) (w : Verdict) → AllBelow e kept → verdict_at (kept ++ (e, w) ∷ []) e ≡ w
+pub this_event : (kept : Verdicts) (e : ℕ) (w : Verdict) → AllBelow e kept → verdict_at (kept ++ (e, w) ∷ []) e ≡ w
 this_event [] e w h = ap (λ b. cond b w Go) (eq-eqb e e refl)
 this_event (x ∷ xs) e w h = ap (λ b. cond b x.1 (verdict_at (xs ++ (e, w) ∷ []) e)) (ne_eqb x.0 e (λ k. omega (arith, h.0))) ∙ this_event xs e w h.1
 
-no_event : (kept : Verdicts) (e : ℕ) → AllBelow e kept → verdict_at kept e ≡ Go
+pub no_event : (kept : Verdicts) (e : ℕ) → AllBelow e kept → verdict_at kept e ≡ Go
 no_event [] e h = refl
 no_event (x ∷ xs) e h = ap (λ b. cond b x.1 (verdict_at xs e)) (ne_eqb x.0 e (λ k. omega (arith, h.0))) ∙ no_event xs e h.1
-
--- a machine leads to the meaning under each list that agrees so far with what was kept
-abbrev pub LeadsUnder : Program → ℕ → ℕ → Verdicts → Machine → Type 0
-LeadsUnder p fuel root kept m = (v : Verdicts) → AgreeBelow (length m.state.events) v kept → point p v m ≡ from_root p v fuel (Some root)
 
 module _ (p : Program) (fuel root : ℕ) where
   -- under every list before the first event

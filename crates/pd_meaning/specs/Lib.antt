@@ -1,3 +1,8 @@
 pub mod Meaning
 pub mod Machine
+pub mod Seen
 pub mod Laws
+pub mod Steps
+pub mod Telling
+pub mod Weight
+pub mod Leads

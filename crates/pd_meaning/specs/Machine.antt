@@ -8,7 +8,7 @@ use Rattle.pd_machine.specs.declared.run.Pending.{Pending}
 use Rattle.pd_machine.specs.declared.run.Mode.{Mode}
 use Rattle.pd_machine.specs.declared.run.Pending.TheVariants.{Leaving, Operand, Catching, Choosing, ChoosingBetween, Testing, Turning, LeftSide, RightSide, InCall, Dropping}
 use Rattle.pd_machine.specs.declared.run.Mode.TheVariants.{Entering, Starting, Coming}
-use Rattle.std.specs.Prelude.{ℕ, zero, suc, ◌-◌, Bool, true, false, nat_lt, ◌==◌, List, [], ◌∷◌, ◌++◌, length, Option, None, Some, Result, Ok, Err}
+use Rattle.std.specs.Prelude.{ℕ, zero, suc, ◌+◌, Bool, true, false, nat_lt, ◌==◌, List, [], ◌∷◌, ◌++◌, length, drop, slice_get, Option, None, Some, Result, Ok, Err}
 use Rattle.pd_values.specs.declared.value.Value.{Value}
 use Rattle.pd_values.specs.declared.value.Value.TheVariants.{Bool as Truth, Null, Func}
 use Rattle.pd_values.specs.declared.value.Fault.{Fault}
@@ -24,8 +24,8 @@ use Rattle.pd_machine.specs.declared.event.Verdict.{Verdict}
 use Rattle.pd_machine.specs.declared.event.Verdict.TheVariants.{Go, Reenter, Return, Kill}
 use Rattle.pd_values.specs.Operators.{show}
 use Rattle.pd_tree.specs.Program.{Program, Node, node_at, item_at, item_names}
-use Rattle.pd_machine.specs.Events.{State, push_frame, standing, tell}
-use Rattle.pd_meaning.specs.Meaning.{Verdicts, Outcome, ends, Run, with_value, verdict_on, exit, parts, on_truth, caught, after_turn, turns, written, popped, returned, invoked, first_or_null, first_variables, frame_for, combined, right_truth, inside, evaluated, opening, entry_frame}
+use Rattle.pd_machine.specs.Events.{State, from_outermost, push_frame, standing, tell}
+use Rattle.pd_meaning.specs.Meaning.{Verdicts, Outcome, ends, Run, with_value, verdict_on, exit, parts, on_truth, caught, after_turn, turns, written, popped, returned, invoked, first_or_null, first_variables, frame_for, most_frames, combined, right_truth, inside, evaluated, opening, entry_frame}
 
 -- ---- the states of the machine
 
@@ -46,8 +46,8 @@ settled stack (ends r s) = machine (Coming r) stack s
 -- a verdict on the event that was just told
 abbrev pub obeyed : Verdict → Machine → Machine
 obeyed Go m = m
-obeyed (Reenter k) m = record m { mode = Coming (Unwinds (length m.state.scene.frames - suc k) None) }
-obeyed (Return k a) m = record m { mode = Coming (Unwinds (length m.state.scene.frames - suc k) (Some a)) }
+obeyed (Reenter k) m = record m { mode = Coming (Unwinds (from_outermost m.state.scene.frames k) None) }
+obeyed (Return k a) m = record m { mode = Coming (Unwinds (from_outermost m.state.scene.frames k) (Some a)) }
 obeyed Kill m = record m { mode = Coming (Stops WasKilled) }
 
 abbrev pub entered : Program → Verdicts → ℕ → List Tag → List Pending → State → Machine
@@ -69,7 +69,7 @@ depth_checked false n f stack s = machine (Coming (Faults Depth n)) stack s
 abbrev pub arguments_checked : ℕ → ℕ → Node → Result (List Value) Fault → List Pending → State → Machine
 arguments_checked n root node (Err f) stack s = machine (Coming (Faults f n)) stack s
 arguments_checked n root node (Ok variables) stack s =
-    depth_checked (nat_lt (length s.scene.frames) 2000) n (frame_for root node variables s.scene) stack s
+    depth_checked (nat_lt (length s.scene.frames) most_frames) n (frame_for root node variables s.scene) stack s
 
 abbrev pub item_called : Program → ℕ → Option ℕ → List Value → List Pending → State → Machine
 item_called p n None arguments stack s = settled stack (written n (show (item_names p) (first_or_null arguments)) (first_or_null arguments) s)
@@ -89,9 +89,13 @@ combining p n SlCall values stack s = value_called p n values stack s
 combining p n (PlCall x) values stack s = name_called p n (node_at p n).meaning stack s
 combining p n kind values stack s = settled stack (combined p 0 (λ m u. ends (Stops SpentFuel) u) n kind values s)
 
-abbrev pub parts_begun : Program → ℕ → List ℕ → List Value → List Pending → State → Machine
-parts_begun p n [] values stack s = combining p n (node_at p n).kind values stack s
-parts_begun p n (m ∷ ms) values stack s = machine (Entering m) (Operand n values ms ∷ stack) s
+-- the part at place i is next, or there is none left
+abbrev pub part_begun : Program → ℕ → ℕ → Option ℕ → List Value → List Pending → State → Machine
+part_begun p n i None values stack s = combining p n (node_at p n).kind values stack s
+part_begun p n i (Some m) values stack s = machine (Entering m) (Operand n values (i + 1) ∷ stack) s
+
+abbrev pub parts_begun : Program → ℕ → List ℕ → ℕ → List Value → List Pending → State → Machine
+parts_begun p n ms i values stack s = part_begun p n i (slice_get ms i) values stack s
 
 abbrev pub last_begun : List ℕ → List Pending → State → Machine
 last_begun [] stack s = machine (Coming (Gives Null)) stack s
@@ -114,14 +118,14 @@ either_begun x n _ stack s = machine (Coming (Faults WrongKind n)) stack s
 abbrev pub starting_turn : Program → ℕ → Kind → List ℕ → List Pending → State → Machine
 starting_turn p n (SlFunction name parameters) ms stack s = last_begun ms stack s
 starting_turn p n (PlProcedure name variables) ms stack s = last_begun ms stack s
-starting_turn p n SlBody ms stack s = parts_begun p n ms [] (Catching ∷ stack) s
+starting_turn p n SlBody ms stack s = parts_begun p n ms 0 [] (Catching ∷ stack) s
 starting_turn p n SlIf ms stack s = choice_begun n ms stack s
 starting_turn p n PlIf ms stack s = choice_begun n ms stack s
 starting_turn p n SlWhile ms stack s = loop_begun n ms stack s
 starting_turn p n PlWhile ms stack s = loop_begun n ms stack s
 starting_turn p n SlOr ms stack s = either_begun true n ms stack s
 starting_turn p n SlAnd ms stack s = either_begun false n ms stack s
-starting_turn p n kind ms stack s = parts_begun p n ms [] stack s
+starting_turn p n kind ms stack s = parts_begun p n ms 0 [] stack s
 
 -- one of two machines by a truth value
 abbrev pub by_truth : ℕ → Value → Machine → Machine → List Pending → State → Machine
@@ -136,7 +140,7 @@ call_again false m f stack s = machine (Coming (Unwinds m None)) stack s
 -- a value comes to what waits
 abbrev pub value_came : Program → Verdicts → Pending → Value → List Pending → State → Machine
 value_came p v (Leaving n opened) a stack s = obeyed (verdict_on p v n Call (length s.events)) (machine (Coming (Gives a)) stack (tell n opened (Gave a) s))
-value_came p v (Operand n values ms) a stack s = parts_begun p n ms (values ++ a ∷ []) stack s
+value_came p v (Operand n values i) a stack s = parts_begun p n (node_at p n).children i (values ++ a ∷ []) stack s
 value_came p v Catching a stack s = machine (Coming (Gives a)) stack s
 value_came p v (Choosing n block) a stack s = by_truth n a (machine (Entering block) stack s) (machine (Coming (Gives Null)) stack s) stack s
 value_came p v (ChoosingBetween n block other) a stack s = by_truth n a (machine (Entering block) stack s) (machine (Entering other) stack s) stack s
@@ -194,8 +198,8 @@ right_outcome p v n r u = right_truth (whole p v) n r u
 -- what is made of an outcome by what waits for it
 abbrev pub resumed : Program → Verdicts → Pending → Outcome → Outcome
 resumed p v (Leaving n opened) o = exit p v n opened o
-resumed p v (Operand n values ms) o =
-    with_value o (λ a t. parts (whole p v) ms (values ++ a ∷ []) (λ vs u. combined p u.left (whole p v) n (node_at p n).kind vs u) t)
+resumed p v (Operand n values i) o =
+    with_value o (λ a t. parts (whole p v) (drop i (node_at p n).children) (values ++ a ∷ []) (λ vs u. combined p u.left (whole p v) n (node_at p n).kind vs u) t)
 resumed p v Catching o = caught o
 resumed p v (Choosing n block) o = with_value o (λ a t. on_truth n a (whole p v block) (ends (Gives Null)) t)
 resumed p v (ChoosingBetween n block other) o = with_value o (λ a t. on_truth n a (whole p v block) (whole p v other) t)

@@ -2,6 +2,8 @@
 -- A node's meaning is made of the meanings of its parts. Each entry of a node takes one unit of fuel. So the fuel bounds how deep
 -- entries stand in one another, how often a loop turns and how often a call is made again, and each recursion goes down such a bound.
 -- Where a bound is at least the fuel that is left, its size makes no difference.
+-- A linked program has for each kind of node the parts of its grammar, a meaning for each name, and the block of each variable. What is
+-- said here for other nodes is never read.
 -- The parts of this file: results; entry; verdicts; what a node does inside; its exit; calls; each kind of node; the whole run.
 use Rattle.pd_machine.specs.declared.run.Home.{Home}
 use Rattle.pd_machine.specs.declared.run.Home.TheVariants.{InFrame, InMain}
@@ -10,12 +12,12 @@ use Rattle.pd_machine.specs.declared.run.NodeResult.{NodeResult}
 use Rattle.pd_machine.specs.declared.run.NodeResult.TheVariants.{Gives, Returns, Breaks, Continues, Faults, Unwinds, Stops}
 use Rattle.pd_machine.specs.declared.run.Cutoff.TheVariants.{SpentFuel, WasKilled}
 use Rattle.std.specs.Prelude.{ℕ, zero, suc, ◌+◌, ◌-◌, ◌^◌, Bool, true, false, if◌then◌else◌, nat_lt, nat_le, ◌==◌, List, [], ◌∷◌, ◌++◌, length, drop, replicate, position, bytes_eq, slice_set, slice_get, map, Option, None, Some, Result, Ok, Err, unwrap_or, pos}
+use Rattle.std.specs.Result.{result_unwrap_or}
 use Rattle.pd_values.specs.declared.value.Value.{Value}
 use Rattle.pd_values.specs.declared.value.Value.TheVariants.{Number, Bool as Truth, Text as Chars, Null, Func}
 use Rattle.pd_values.specs.declared.value.Fault.{Fault}
 use Rattle.pd_values.specs.declared.value.Fault.TheVariants.{WrongKind, Undefined, Depth, OutputLong, CrossType, CrossArity}
 use Rattle.pd_values.specs.declared.value.End.{End}
-use Rattle.pd_values.specs.declared.value.End.TheVariants.{Done, Faulted, Exhausted, Killed}
 use Rattle.pd_values.specs.declared.value.Tag.{Tag}
 use Rattle.pd_values.specs.declared.value.Tag.TheVariants.{Statement, Call}
 use Rattle.pd_tree.specs.declared.kind.Kind.{Kind}
@@ -29,7 +31,7 @@ use Rattle.pd_machine.specs.declared.event.Verdict.TheVariants.{Go, Reenter, Ret
 use Rattle.pd_values.specs.Operators.{ValueOrFault, show, plus, minus, odd}
 use Rattle.pd_tree.specs.Binary.{binary}
 use Rattle.pd_tree.specs.Program.{Program, Node, node_at, item_at, item_names, has_tag}
-use Rattle.pd_machine.specs.Events.{Scene, Told, State, frame_of, variables_at, blocks_of, scene_value, set_variable, standing, push_frame, pop_frame, tell}
+use Rattle.pd_machine.specs.Events.{Scene, Told, State, frame_of, from_outermost, variables_at, blocks_of, scene_value, set_variable, standing, push_frame, pop_frame, tell, end_of}
 
 -- the verdicts that a run is given, each with the number of its event
 abbrev pub Verdicts : Type 0
@@ -62,6 +64,7 @@ with_fuel (suc left) go s = go (record s { left = left })
 
 -- ---- verdicts: one on the Enter of a statement stands in place of what the node does, and one on the Return of a call in place of its value
 
+-- where two verdicts have the number of one event, the first counts
 abbrev pub verdict_at : Verdicts → ℕ → Verdict
 verdict_at [] e = Go
 verdict_at (x ∷ xs) e = if x.0 == e then x.1 else verdict_at xs e
@@ -70,11 +73,11 @@ verdict_at (x ∷ xs) e = if x.0 == e then x.1 else verdict_at xs e
 abbrev pub verdict_on : Program → Verdicts → ℕ → Tag → ℕ → Verdict
 verdict_on p v n tag e = if has_tag (node_at p n).tags tag then verdict_at v e else Go
 
--- the verdict is the result, and with none the run goes on; a frame past the outermost means the outermost
+-- the verdict is the result, and with none the run goes on
 abbrev pub heed : Verdict → (State → Outcome) → State → Outcome
 heed Go go s = go s
-heed (Reenter k) go s = ends (Unwinds (length s.scene.frames - suc k) None) s
-heed (Return k a) go s = ends (Unwinds (length s.scene.frames - suc k) (Some a)) s
+heed (Reenter k) go s = ends (Unwinds (from_outermost s.scene.frames k) None) s
+heed (Return k a) go s = ends (Unwinds (from_outermost s.scene.frames k) (Some a)) s
 heed Kill go s = ends (Stops WasKilled) s
 
 -- ---- inside: a part's result that is no value is the node's own, but for the jumps that a loop and a body take
@@ -155,9 +158,16 @@ assigned (Local up slot) a s = record s { scene = set_variable s.scene up slot a
 assigned (Means i) a s = s
 assigned Nothing a s = s
 
+-- the most bytes of output
+abbrev pub longest_output : ℕ
+longest_output = 2 ^ 24
+
 -- the bytes and a line end, where the output has room for them
 abbrev pub written : ℕ → List ℕ → Value → State → Outcome
-written n bytes a s = if nat_le (length s.output + length bytes + 1) (2 ^ 24) then ends (Gives a) (record s { output = s.output ++ (bytes ++ 10 ∷ []) }) else ends (Faults OutputLong n) s
+written n bytes a s =
+    if nat_le (length s.output + length bytes + 1) longest_output
+    then ends (Gives a) (record s { output = s.output ++ (bytes ++ 10 ∷ []) })
+    else ends (Faults OutputLong n) s
 
 -- ---- exit: a value gives Return, on which a call's verdict may stand; a jump, fault or unwinding gives Leave; a stop gives no event
 
@@ -225,25 +235,29 @@ first_variables node arguments = elim node.kind [
       else (if all_numbers arguments then Ok (filled node.slots (Number (pos 0)) arguments) else Err CrossType)
 ]
 
--- the blocks around a callee of this level: those that the caller sees, or the main block of the callee's source
-abbrev pub around : Node → Scene → List Home
-around node c = elim node.level [
-  | zero ↦ []
-  | suc l ↦ elim l [
-    | zero ↦ InMain node.source ∷ []
-    | suc _ ↦ let seen = blocks_of (frame_of c.frames 0) in drop (length seen - node.level) seen
-  ]
-]
+-- the blocks around a callee's own: none around an SL function or a main block, the main block of its source around a procedure
+-- that is declared directly in it, and around a procedure of a greater level l the last l blocks that its caller sees
+abbrev pub around : ℕ → ℕ → List Home → List Home
+around zero source seen = []
+around (suc zero) source seen = InMain source ∷ []
+around (suc (suc l)) source seen = drop (length seen - suc (suc l)) seen
 
 -- the new frame of a call
 abbrev pub frame_for : ℕ → Node → List Value → Scene → Frame
-frame_for root node variables c = record { root = root; at = root; variables = variables; blocks = InFrame (length c.frames) ∷ around node c }
+frame_for root node variables c = record { root = root; at = root; variables = variables; blocks = InFrame (length c.frames) ∷ around node.level node.source (blocks_of (frame_of c.frames 0)) }
+
+-- the most live frames
+abbrev pub most_frames : ℕ
+most_frames = 2000
 
 -- the arguments are tested first, and then whether one more frame may be live; the caller's frame stands at the call node
 abbrev pub called_with : ℕ → Run → ℕ → ℕ → Node → Result (List Value) Fault → State → Outcome
 called_with bound run n root node (Err f) s = ends (Faults f n) s
 called_with bound run n root node (Ok variables) s =
-    elim (nat_lt (length s.scene.frames) 2000) [ true ↦ invoked bound run (frame_for root node variables s.scene) (record s { scene = standing n s.scene }) | false ↦ ends (Faults Depth n) s ]
+    elim (nat_lt (length s.scene.frames) most_frames) [
+      | true ↦ invoked bound run (frame_for root node variables s.scene) (record s { scene = standing n s.scene })
+      | false ↦ ends (Faults Depth n) s
+    ]
 
 -- a call of an item: `println` writes and gives its first argument
 abbrev pub called : Program → ℕ → Run → ℕ → Option ℕ → List Value → State → Outcome
@@ -313,14 +327,6 @@ pub record Ran : Type 0 where
   pub used : ℕ
   pub finish : End
 
--- a jump ends at a body and an unwinding at a frame, so neither comes out of the entry
-abbrev pub end_of : NodeResult → End
-end_of (Gives a) = Done a
-end_of (Faults f n) = Faulted f n
-end_of (Stops SpentFuel) = Exhausted
-end_of (Stops WasKilled) = Killed
-end_of _ = Done Null
-
 abbrev pub ran : ℕ → Outcome → Ran
 ran fuel (ends r s) = record { output = s.output; events = s.events; used = fuel - s.left; finish = end_of r }
 
@@ -332,15 +338,17 @@ main_variables p (Some root) = replicate (node_at p root).slots (Number (pos 0))
 abbrev pub opening : Program → ℕ → State
 opening p fuel = record { scene = record { frames = []; mains = map (main_variables p) p.mains }; output = []; events = []; left = fuel }
 
+-- whether a root is a main block: a PL/0 block around which no procedure stands
+abbrev pub is_main_block : Kind → ℕ → Bool
+is_main_block (PlProcedure name variables) zero = true
+is_main_block _ _ = false
+
 -- the frame of the entry, which is called without arguments; a main block's variables stand in the context
 abbrev pub entry_frame : ℕ → Node → State → Frame
-entry_frame root node s = elim (nat_lt 0 node.level) [
-  | true ↦ frame_for root node (replicate node.slots (Number (pos 0))) s.scene
-  | false ↦ elim node.kind [
-    | SlFunction name parameters ↦ frame_for root node (replicate node.slots Null) s.scene
-    | _ ↦ record { root = root; at = root; variables = []; blocks = InMain node.source ∷ [] }
-  ]
-]
+entry_frame root node s =
+    if is_main_block node.kind node.level
+    then record { root = root; at = root; variables = []; blocks = InMain node.source ∷ [] }
+    else frame_for root node (result_unwrap_or (first_variables node []) []) s.scene
 
 -- the entry is a call without arguments
 abbrev pub from_root : Program → Verdicts → ℕ → Option ℕ → Outcome

@@ -1,6 +1,7 @@
 //! A list of the host.
-ghost use Rattle.std.specs.Prelude.{◌≡◌, ◌<◌, [], length, IsTrue, IsFalse, option_copied, slice_get};
+ghost use Rattle.std.specs.Prelude.{◌≡◌, ◌<◌, [], ◌∷◌, ◌++◌, length, IsTrue, IsFalse, OnOk, option_copied, slice_get, slice_set};
 
+use std::alloc::AllocError;
 use std::marker::Model;
 
 /// A vector that contracts see as the list of its items.
@@ -45,5 +46,22 @@ impl<T: Drop> Items<T> {
         ensures { option_copied result ≡ slice_get self.now i }
     {
         self.held.get(i)
+    }
+
+    /// Puts a value at a position, counted from 0; past the end nothing changes.
+    pub fn set(&mut self, i: usize, value: T)
+        ensures { self.new ≡ slice_set self.old i value }
+    {
+        if i < self.held.len() {
+            self.held[i] = value;
+        }
+    }
+
+    /// Puts a value at the end.
+    pub fn push(&mut self, value: T) -> Result<(), AllocError>
+        ensures { OnOk result (self.new ≡ self.old ++ value ∷ []) }
+    {
+        self.held.push(value)?;
+        Ok(())
     }
 }
