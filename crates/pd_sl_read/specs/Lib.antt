@@ -1,0 +1,5 @@
+pub mod Held
+pub mod Places
+pub mod Behind
+pub mod Tokens
+pub mod Answers

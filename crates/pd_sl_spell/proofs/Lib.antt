@@ -1,0 +1,7 @@
+pub mod Completes
+pub mod Forward
+pub mod Backward
+pub mod Completion
+pub mod Answer
+pub mod Only
+pub mod Examples

@@ -1,0 +1,84 @@
+//! Nodes behind their parts are put before them.
+#![tactic(auto)]
+
+ghost use Rattle.std.specs.Prelude.{◌≡◌, reverse, OnOk, IfOk};
+ghost use Rattle.pd_turn.specs.Turned.{Roses, posts, pres, part_done};
+
+use std::alloc::{AllocError, Global};
+
+/// A node of a tree, with the number of its parts.
+#[derive(Drop)]
+pub struct Node<T: Drop> {
+    pub what: T,
+    pub parts: u32,
+}
+
+/// A node of which some parts haven't been done.
+#[derive(Drop)]
+struct Pending<T: Drop> {
+    node: Node<T>,
+    missing: u32,
+}
+
+/// A part is done, and so is each node whose last missing part was done by that.
+fn part_done<T: Drop>(
+    unfinished: &mut Vec<Pending<T>>,
+    done: &mut Vec<Node<T>>,
+) -> Result<(), AllocError>
+    ensures { OnOk result ((reverse unfinished.new.items, done.new.items) ≡ part_done (reverse unfinished.old.items) done.old.items) }
+{
+    while let Some(top) = unfinished.pop() {
+        if top.missing > 1 {
+            unfinished.push(Pending {
+                node: top.node,
+                missing: top.missing - 1,
+            })?;
+            return Ok(());
+        }
+        done.push(top.node)?;
+    }
+    Ok(())
+}
+
+/// The nodes of some trees before their parts, from the nodes behind their parts.
+/// Each node is moved once, and nothing recurses.
+pub fn before<T: Drop>(alloc: Global, nodes: Vec<Node<T>>) -> Result<Vec<Node<T>>, AllocError>
+    ensures { IfOk result (λ out. (ts : Roses T) → nodes.items ≡ posts ts → out.items ≡ pres ts) }
+{
+    let mut nodes = nodes;
+    let mut unfinished = Vec::new(alloc);
+    let mut done = Vec::new(alloc);
+    while let Some(node) = nodes.pop() {
+        if node.parts == 0 {
+            done.push(node)?;
+            part_done(&mut unfinished, &mut done)?;
+        } else {
+            let missing = node.parts;
+            unfinished.push(Pending { node, missing })?;
+        }
+    }
+    done.reverse();
+    Ok(done)
+}
+
+#[cfg(test)]
+mod tests {
+    use super::*;
+    use std::test::Fail;
+
+    /// The trees a(b(c), d) and e: c b d a e behind their parts, a b c d e before them.
+    #[test]
+    fn two_trees(rt: HostRuntime) -> Result<(), Fail> {
+        let mut nodes = Vec::new(rt.alloc());
+        for (what, parts) in [(b'c', 0), (b'b', 1), (b'd', 0), (b'a', 2), (b'e', 0)] {
+            nodes.push(Node { what, parts })?;
+        }
+        let turned = before(rt.alloc(), nodes)?;
+        let mut names = String::new(rt.alloc());
+        for node in &turned {
+            names.push(char::from(node.what))?;
+        }
+        assert_eq!(rt; names.as_str(), "abcde");
+        Ok(())
+    }
+}
