@@ -6,8 +6,9 @@ ghost use Rattle.std.specs.List.{prefix_len, list_any};
 ghost use Rattle.pd_sections.specs.Pieces.{is_digit, is_line_end, word};
 ghost use Rattle.std.specs.Str.{bytes_eq};
 ghost use Rattle.pd_sections.specs.Lexing.{Splits, StopsAt, IsLongest, StartsNoPiece, FaultWithin};
+ghost use Rattle.pd_sections.specs.Scanning.{found_number, found_symbol};
 ghost use Rattle.pd_sections.specs.SlPieces.{is_white, is_name_start, is_name_part, keywords, is_symbol, is_pair, closed_text, starts_with_slash, sl_piece};
-ghost use Rattle.pd_sl_lex.specs.Scan.{text_end, comment_end, found_name, found_number, found_text, found_slash, found_symbol, found_from, found_in};
+ghost use Rattle.pd_sl_lex.specs.Scan.{text_end, comment_end, found_text, found_slash, found_from, found_in};
 
 use pd_sections::{Lexicon, MOST_BYTES, Piece, Refusal, Rule, Source, Stop, TokenKind, Tokens};
 use std::alloc::Global;
@@ -165,9 +166,7 @@ fn found_slash(rest: &[u8]) -> (Piece, u32)
     ensures { result ≡ found_slash rest.now }
 {
     match rest {
-        [b'/', line @ ..] => {
-            (Piece::Blank, 2 + line_len(line) as u32)
-        }
+        [b'/', line @ ..] => { (Piece::Blank, 2 + line_len(line) as u32) }
         [b'*', comment @ ..] => match comment_end(comment) {
             None => (fault(Rule::OpenComment, 0), 2),
             Some(len) => (Piece::Blank, 2 + len as u32),
@@ -197,7 +196,7 @@ fn ends_comment(byte: u8, next: &[u8]) -> bool
 }
 
 fn found_symbol(first: u8, rest: &[u8]) -> Option<(Piece, u32)>
-    ensures { result ≡ found_symbol first rest.now }
+    ensures { result ≡ found_symbol is_symbol is_pair first rest.now }
 {
     match rest {
         [next, ..] if is_pair(first, *next) => Some((Piece::Word(TokenKind::Symbol), 2)),
@@ -239,7 +238,10 @@ fn is_line_end(byte: u8) -> bool
 fn is_symbol(byte: u8) -> bool
     ensures { result ≡ is_symbol byte }
 {
-    matches!(byte, b'(' | b')' | b'{' | b'}' | b',' | b';' | b'=' | b'<' | b'>' | b'+' | b'-' | b'*')
+    matches!(
+        byte,
+        b'(' | b')' | b'{' | b'}' | b',' | b';' | b'=' | b'<' | b'>' | b'+' | b'-' | b'*'
+    )
 }
 
 fn is_pair(byte: u8, next: u8) -> bool

@@ -5,9 +5,13 @@ use pd_sections::{NotUtf8, Token};
 use std::test::Fail;
 
 const NAME: TokenKind = TokenKind::Name;
+
 const NUMBER: TokenKind = TokenKind::Number;
+
 const TEXT: TokenKind = TokenKind::Text;
+
 const KEYWORD: TokenKind = TokenKind::Keyword;
+
 const SYMBOL: TokenKind = TokenKind::Symbol;
 
 fn lexed(alloc: Global, bytes: &[u8]) -> Result<Result<Tokens, Stop<Refusal>>, Stop<NotUtf8>>
@@ -69,7 +73,11 @@ fn the_first_offending_place_is_refused(rt: HostRuntime) -> Result<(), Fail> {
     ] {
         assert!(rt; text.len() < 9);
         let refused = lexed(rt.alloc(), text)?.err();
-        assert_eq!(rt; refused, Some(Stop::Refused(Refusal { rule, at })), "at {at}");
+        assert_eq!(rt;
+            refused,
+            Some(Stop::Refused(Refusal { rule, at })),
+            "at {at}"
+        );
     }
     let nothing = lexed(rt.alloc(), b" // only blanks")??;
     assert_eq!(rt; nothing.len(), 0);

@@ -1,4 +1,4 @@
-use Rattle.std.proofs.Common.{◌≡◌, ◌+◌, drop, Option}
+use Rattle.std.proofs.Common.{◌≡◌, ◌+◌, drop}
 use Rattle.std.specs.Option.{option_map}
 use Rattle.pd_sl_lex.specs.Scan.{text_end}
 use Rattle.pd_sl_lex.proofs.text_end.Given as goal

@@ -1,0 +1,21 @@
+-- The longest pieces that the languages share, found from the left: what their lexers compute.
+use Rattle.std.specs.Prelude.{ℕ, ◌+◌, Bool, if◌then◌else◌, List, [], ◌∷◌, take, Option, Some, None}
+use Rattle.std.specs.List.{prefix_len}
+use Rattle.pd_sections.specs.declared.TokenKind.TheVariants.{Number, Symbol}
+use Rattle.pd_sections.specs.declared.Piece.{Piece}
+use Rattle.pd_sections.specs.declared.Piece.TheVariants.{Word}
+use Rattle.pd_sections.specs.Pieces.{is_digit, word}
+
+-- a piece and its length
+abbrev pub Found : Type 0
+Found = Piece × ℕ
+
+abbrev pub found_name : (ℕ → Bool) → List (List ℕ) → ℕ → List ℕ → Found
+found_name is_part keywords byte bytes = let len : ℕ = 1 + prefix_len is_part bytes in (word keywords (take len (byte ∷ bytes)), len)
+
+abbrev pub found_number : List ℕ → Found
+found_number bytes = (Word Number, 1 + prefix_len is_digit bytes)
+
+abbrev pub found_symbol : (ℕ → Bool) → (ℕ → ℕ → Bool) → ℕ → List ℕ → Option Found
+found_symbol is_symbol is_pair byte [] = if is_symbol byte then Some (Word Symbol, 1) else None
+found_symbol is_symbol is_pair byte (next ∷ bytes) = if is_pair byte next then Some (Word Symbol, 2) else if is_symbol byte then Some (Word Symbol, 1) else None
