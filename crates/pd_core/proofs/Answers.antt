@@ -50,7 +50,7 @@ far_steps p ws views id i x t v g far at seated spoken =
     (subst (Spoken p (set ws i x)) (sym (map-set talk_of views id (spoke t v))) spoken)
     (switched_stays p ws (set ws i x) views id v (spoke t v) g at q.bindings_same (λ kind c y. refl) (λ c y. refl)) (answered_kept views id v (spoke t v) at refl refl g.answered)
 
-total_under : {A : Type 0} (f g : A → ℕ) (xs : List A) → ((j : ℕ) (u : A) → get_elem? xs j ≡ some u → f u ≤ g u) → total f xs ≤ total g xs
+pub total_under : {A : Type 0} (f g : A → ℕ) (xs : List A) → ((j : ℕ) (u : A) → get_elem? xs j ≡ some u → f u ≤ g u) → total f xs ≤ total g xs
 unfolding total
 total_under f g [] h = omega arith
 total_under f g (x ∷ xs) h = let here = h 0 x refl in omega (arith, total_under f g xs (λ j u e. h (suc j) u e))

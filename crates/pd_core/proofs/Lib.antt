@@ -24,3 +24,4 @@ pub mod Admitted
 pub mod Laws
 pub mod Examples
 pub mod Replies
+pub mod Facts

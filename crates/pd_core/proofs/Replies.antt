@@ -137,7 +137,7 @@ module _ (p : Layout) (ws : List ℕ) (views : List View) (id b : ℕ) (v : View
   abbrev upto : Bool → ℕ → ℕ
   upto kind y = total (of_all (toggles_upto kind b y)) views
 
-  missed_once : (x : ℕ) → total (of_all (misses b x)) views ≤ 1
+  pub missed_once : (x : ℕ) → total (of_all (misses b x)) views ≤ 1
   missed_once x = omega (arith, all_under (misses b x) (drew_number b x) (misses_drawn b x) views, g.counted.drawn b x lt, one_at_most x (g.limit b))
 
   -- an enable that found the binding on, after a disable with the count c
