@@ -1,9 +1,9 @@
 -- The parts of nodes, from the last node to the first.
-use Rattle.std.proofs.Common.{◌≡◌, refl, sym, ◌∙◌, ap, subst, ℕ, zero, suc, ◌+◌, ◌-◌, ◌^◌, ◌<◌, ◌≤◌, List, [], ◌∷◌, ◌++◌, length, take, drop, map, reverse, arith, length-take, length-drop, length-append}
+use Rattle.std.proofs.Common.{◌≡◌, refl, sym, ◌∙◌, ap, ℕ, zero, suc, ◌+◌, ◌-◌, ◌≤◌, List, [], ◌∷◌, ◌++◌, length, take, drop, map, reverse, arith, length-take, length-drop, length-append}
 use Rattle.std.proofs.lemmas.List.{reverse-append, map-append}
 use Rattle.pd_tree.specs.declared.addition.Addition.{Addition}
 use Rattle.pd_tree.specs.declared.place.Shape.{Shape}
-use Rattle.pd_tree.specs.Linked.{tops, parts_of, assigned_slots, more_slots, AllComplete}
+use Rattle.pd_tree.specs.Linked.{tops, assigned_slots, AllComplete}
 use Rattle.pd_tree.specs.Kept.{stretch}
 use Rattle.pd_tree.specs.Linking.{Late, late_from, late_in, ShapesFrom, AllShapesIn}
 use Rattle.pd_tree.proofs.Lists.{stretch-grow, drop-end, take-twice}

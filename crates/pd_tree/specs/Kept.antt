@@ -1,15 +1,12 @@
 -- How a program is kept: additions, and beside each its place, with its parts and the variables that it sees as stretches of two lists.
-use Rattle.std.specs.Prelude.{◌≡◌, ℕ, ◌+◌, ◌<◌, ◌≤◌, ◌^◌, Bool, false, List, [], ◌∷◌, length, take, drop, slice_index_or, Option, None, Some}
+use Rattle.std.specs.Prelude.{◌≡◌, ℕ, ◌+◌, ◌<◌, ◌≤◌, ◌^◌, false, List, [], ◌∷◌, length, take, drop, slice_index_or, Option}
 use Rattle.pd_tree.specs.declared.kind.Visible.{Visible}
-use Rattle.pd_tree.specs.declared.kind.Meaning.{Meaning}
 use Rattle.pd_tree.specs.declared.kind.Meaning.TheVariants.{Nothing}
 use Rattle.pd_tree.specs.declared.addition.Addition.{Addition}
 use Rattle.pd_tree.specs.declared.place.Place.{Place}
 use Rattle.pd_tree.specs.declared.place.Span.{Span}
 use Rattle.pd_tree.specs.Program.{Program, Node, Item}
 use Rattle.pd_tree.specs.Kinds.{tags_of}
-use Rattle.pd_tree.specs.Linked.{no_addition}
-use Rattle.pd_tree.specs.WellFormed.{IsWellFormed}
 
 abbrev pub stretch : {T : Type 0} → Span → List T → List T
 stretch s items = take s.len (drop s.from items)

@@ -3,11 +3,11 @@ use Rattle.std.specs.Prelude.{◌≡◌, ℕ, ◌≤◌, ◌⊎◌, Bool, true, 
 use Rattle.pd_values.specs.declared.value.Tag.{Tag}
 use Rattle.pd_values.specs.declared.value.Tag.TheVariants.{Statement, Call, Root, RootBody, Expression, ReadVariable, WriteVariable, AlwaysHalt}
 use Rattle.pd_tree.specs.declared.kind.Operator.{Operator}
-use Rattle.pd_tree.specs.declared.kind.Operator.TheVariants.{Equal, NotEqual, Less, LessEq, Greater, GreaterEq, Add, Sub, Mul, Div}
+use Rattle.pd_tree.specs.declared.kind.Operator.TheVariants.{Add, Sub, Mul, Div}
 use Rattle.pd_tree.specs.declared.kind.Kind.{Kind}
 use Rattle.pd_tree.specs.declared.kind.Kind.TheVariants.{SlFunction, SlBody, SlBlock, SlIf, SlWhile, SlReturn, SlBreak, SlContinue, SlDebugger, SlOr, SlAnd, SlBinary, SlCall, SlAssign, SlName, SlNumber, SlText, PlProcedure, PlBody, PlEmpty, PlBegin, PlIf, PlWhile, PlAssign, PlCall, PlWrite, PlOdd, PlBinary, PlPlus, PlMinus, PlName, PlNumber}
 use Rattle.pd_tree.specs.declared.kind.Meaning.{Meaning}
-use Rattle.pd_tree.specs.declared.kind.Meaning.TheVariants.{Local, Item, Nothing}
+use Rattle.pd_tree.specs.declared.kind.Meaning.TheVariants.{Local}
 
 -- a function or a procedure; a main block is a procedure
 abbrev pub is_root : Kind → Bool

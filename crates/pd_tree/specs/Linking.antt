@@ -1,11 +1,11 @@
 -- The words of linking: what the walk over the nodes keeps, seen as the walk of the definition.
-use Rattle.std.specs.Prelude.{◌≡◌, ℕ, zero, suc, ◌+◌, ◌<◌, ◌≤◌, List, [], ◌∷◌, ◌++◌, length, map, reverse, take, drop}
+use Rattle.std.specs.Prelude.{◌≡◌, ℕ, ◌+◌, ◌≤◌, List, [], ◌∷◌, ◌++◌, length, map, reverse}
 use Rattle.pd_tree.specs.declared.kind.Visible.{Visible}
 use Rattle.pd_tree.specs.declared.addition.Addition.{Addition}
 use Rattle.pd_tree.specs.declared.place.Span.{Span}
 use Rattle.pd_tree.specs.declared.place.Shape.{Shape}
 use Rattle.pd_tree.specs.declared.walk.Opened.{Opened}
-use Rattle.pd_tree.specs.Linked.{Open, Walk, tops, parts_of, assigned_slots}
+use Rattle.pd_tree.specs.Linked.{Open, Walk, parts_of, assigned_slots}
 use Rattle.pd_tree.specs.Kept.{stretch}
 
 -- ---- parts and slots

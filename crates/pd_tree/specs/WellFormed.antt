@@ -2,7 +2,7 @@
 use Rattle.std.specs.Prelude.{◌≡◌, ℕ, ◌<◌, ◌≤◌, IsTrue, List, [], ◌∷◌, length, slice_index_or, Option, None, Some}
 use Rattle.pd_tree.specs.declared.kind.Meaning.{Meaning}
 use Rattle.pd_tree.specs.declared.kind.Meaning.TheVariants.{Local, Item as Means, Nothing}
-use Rattle.pd_tree.specs.Program.{Program, Node, Item, node_at, item_at}
+use Rattle.pd_tree.specs.Program.{Program, node_at, item_at}
 use Rattle.pd_tree.specs.Kinds.{is_root, HasParts}
 
 -- numbers of nodes that stand after node n

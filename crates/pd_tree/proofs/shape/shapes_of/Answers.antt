@@ -1,4 +1,4 @@
-use Rattle.std.proofs.Common.{◌≡◌, refl, ◌∙◌, sym, ap, subst, ◌+◌, ◌-◌, ◌≤◌, ◌<◌, [], ◌∷◌, ◌++◌, take, drop, reverse, length, vec_len, arith}
+use Rattle.std.proofs.Common.{◌≡◌, refl, ◌∙◌, ap, subst, ◌+◌, ◌-◌, ◌≤◌, [], ◌∷◌, take, drop, reverse, length, arith}
 use Rattle.std.proofs.lemmas.List.{length-reverse, reverse-append}
 use Rattle.pd_tree.specs.Linked.{tops, AllComplete, more_slots}
 use Rattle.pd_tree.proofs.Lists.{drop-before}

@@ -1,4 +1,4 @@
-use Rattle.std.proofs.Common.{◌≡◌, ◌^◌, ◌<◌, ◌≤◌, length, drop, reverse, ℕ}
+use Rattle.std.proofs.Common.{◌≡◌, ◌^◌, ◌<◌, ◌≤◌, length, drop, reverse}
 use Rattle.pd_tree.specs.Linked.{tops, assigned_slots}
 use Rattle.pd_tree.specs.Linking.{ShapesFrom}
 use Rattle.pd_tree.proofs.shape.shapes_of.Given as goal

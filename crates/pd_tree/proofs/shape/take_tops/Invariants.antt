@@ -1,4 +1,4 @@
-use Rattle.std.proofs.Common.{◌≡◌, ◌++◌, take, drop, reverse, ◌≤◌}
+use Rattle.std.proofs.Common.{◌≡◌, ◌++◌, take, drop, reverse}
 use Rattle.pd_tree.proofs.shape.take_tops.Given as goal
 
 abbrev pub invariant-loop : goal.invariant-loop

@@ -1,4 +1,4 @@
-use Rattle.std.proofs.Common.{◌≡◌, ◌<◌, length, arith}
+use Rattle.std.proofs.Common.{◌<◌, length, arith}
 use Rattle.std.proofs.lemmas.List.{get_or_read}
 use Rattle.pd_tree.specs.Linked.{no_addition}
 use Rattle.pd_tree.proofs.Kept.{below-kept, node-kept, addition-kept}

@@ -1,4 +1,4 @@
-use Rattle.std.proofs.Common.{◌≡◌, ◌<◌, ◌∙◌, ap, length, slice_index_or, arith}
+use Rattle.std.proofs.Common.{◌<◌, ◌∙◌, ap, length, arith}
 use Rattle.std.proofs.lemmas.List.{get_or_read}
 use Rattle.pd_tree.specs.Kept.{no_place, stretch}
 use Rattle.pd_tree.proofs.Kept.{below-kept, node-kept, children-kept}

@@ -1,4 +1,4 @@
-use Rattle.std.proofs.Common.{◌≡◌, ◌∙◌, ap, sym}
+use Rattle.std.proofs.Common.{◌∙◌, ap, sym}
 use Rattle.pd_tree.specs.Program.{item_names}
 use Rattle.pd_tree.proofs.Kept.{names-items_in}
 use Rattle.pd_tree.proofs.program.Program.names.Goals as goal

@@ -1,4 +1,4 @@
-use Rattle.std.proofs.Common.{◌≡◌, ◌<◌, length, slice_index_or, arith}
+use Rattle.std.proofs.Common.{◌<◌, length, slice_index_or, arith}
 use Rattle.std.proofs.lemmas.List.{get_or_read}
 use Rattle.pd_tree.specs.Kept.{no_place}
 use Rattle.pd_tree.specs.Linked.{no_addition}

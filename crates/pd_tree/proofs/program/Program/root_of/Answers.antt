@@ -1,4 +1,4 @@
-use Rattle.std.proofs.Common.{◌≡◌, ◌<◌, ◌∙◌, sym, length, None, arith}
+use Rattle.std.proofs.Common.{◌<◌, ◌∙◌, sym, length, None, arith}
 use Rattle.std.proofs.lemmas.List.{get_or_read}
 use Rattle.pd_tree.proofs.Kept.{item-below-kept, root-kept}
 use Rattle.pd_tree.proofs.program.Program.root_of.Goals as goal
