@@ -198,6 +198,13 @@ impl Program {
         }
     }
 
+    /// The main block of each source, by its number.
+    pub fn mains(&self) -> &[Option<u32>]
+        ensures { result.now ≡ self.now.mains }
+    {
+        self.mains.as_slice()
+    }
+
     /// The item that a context calls.
     pub fn entry(&self, context: u32) -> u32
         requires { context < length self.now.entries }
