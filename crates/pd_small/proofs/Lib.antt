@@ -1,0 +1,4 @@
+pub mod Example
+pub mod Readings
+pub mod Runs
+pub mod Sizes
