@@ -2,9 +2,9 @@
 use Rattle.std.proofs.Common.{◌≡◌, ℕ, List, [], ◌∷◌, Option, refl, sym, subst, arith}
 use Rattle.pd_sections.specs.declared.Piece.TheVariants.{Blank}
 use Rattle.pd_sections.specs.Pieces.{is_digit}
-use Rattle.pd_sections.specs.Scanning.{Found}
+use Rattle.pd_pl0_lex.specs.Scanning.{Found}
 use Rattle.pd_sections.specs.Pl0Pieces.{is_white, is_name_start, is_name_part, keywords, is_symbol, is_pair, pl0_piece}
-use Rattle.pd_sections.proofs.Finding.{Right, right_if, one_right, name_right, number_right, symbol_right}
+use Rattle.pd_pl0_lex.proofs.FoundPieces.{Right, right_if, one_right, name_right, number_right, symbol_right}
 use Rattle.pd_pl0_lex.specs.Scan.{found_from, found_in}
 
 from_right : (byte : ℕ) (bytes : List ℕ) → Right pl0_piece (byte ∷ bytes) (found_from byte bytes)

@@ -2,7 +2,7 @@
 use Rattle.std.specs.Prelude.{ℕ, if◌then◌else◌, List, [], ◌∷◌, Option, Some, None}
 use Rattle.pd_sections.specs.declared.Piece.TheVariants.{Blank}
 use Rattle.pd_sections.specs.Pieces.{is_digit}
-use Rattle.pd_sections.specs.Scanning.{Found, found_name, found_number, found_symbol}
+use Rattle.pd_pl0_lex.specs.Scanning.{Found, found_name, found_number, found_symbol}
 use Rattle.pd_sections.specs.Pl0Pieces.{is_white, is_name_start, is_name_part, keywords, is_symbol, is_pair}
 
 abbrev pub found_from : ℕ → List ℕ → Option Found

@@ -7,7 +7,7 @@ ghost use Rattle.std.specs.Str.{bytes_eq};
 ghost use Rattle.pd_sections.specs.Lexing.{Splits, StopsAt};
 ghost use Rattle.pd_sections.specs.Pieces.{is_digit, word};
 ghost use Rattle.pd_sections.specs.Pl0Pieces.{is_white, is_name_start, is_name_part, keywords, is_symbol, is_pair, pl0_piece};
-ghost use Rattle.pd_sections.specs.Scanning.{found_number, found_symbol};
+ghost use Rattle.pd_pl0_lex.specs.Scanning.{found_number, found_symbol};
 ghost use Rattle.pd_pl0_lex.specs.Scan.{found_from, found_in};
 
 use pd_sections::{Lexicon, MOST_BYTES, Piece, Refusal, Source, Stop, TokenKind, Tokens};

@@ -3,4 +3,3 @@ pub mod Splitting
 pub mod Leading
 pub mod Examples
 pub mod Longest
-pub mod Finding

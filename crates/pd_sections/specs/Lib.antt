@@ -3,7 +3,6 @@ pub mod Lexing
 pub mod Pl0Pieces
 pub mod Positions
 pub mod Refusing
-pub mod Scanning
 pub mod SlPieces
 pub mod Starts
 pub mod Written

@@ -1,21 +1,20 @@
 -- What is found is the longest piece that the bytes begin with.
 use Rattle.std.proofs.Common.{◌≡◌, ℕ, ◌+◌, ◌<◌, ◌≤◌, suc, zero, Bool, true, false, ◌&&◌, not, cond, eqb, List, [], ◌∷◌, length, take, drop, get_or, drop-cons, add-one, Option, Some, None, refl, sym, ap, ◌∙◌, subst, inl, inr, arith}
+use Rattle.std.proofs.Math.Numerals.{one-add}
 use Rattle.std.proofs.lemmas.Bool.{eq-eqb, and_parts, cases_eq}
 use Rattle.std.proofs.lemmas.List.{length-take-le}
 use Rattle.std.proofs.lemmas.List.Sums.{prefix_len-le-length}
 use Rattle.std.specs.List.{list_all, prefix_len}
-use Rattle.std.specs.Option.{option_map}
+use Rattle.std.specs.Option.{option_map, MatchOption, IfSome, IfNone}
 use Rattle.pd_sections.specs.declared.TokenKind.TheVariants.{Number, Text, Symbol}
 use Rattle.pd_sections.specs.declared.Rule.TheVariants.{BadByte, OpenText, OpenComment}
 use Rattle.pd_sections.specs.declared.Piece.{Piece}
 use Rattle.pd_sections.specs.declared.Piece.TheVariants.{Blank, Word, Fault}
-use Rattle.pd_sections.specs.Lexing.{FaultWithin}
-use Rattle.pd_sections.specs.Pieces.{is_digit, is_line_end, is_empty, piece_if}
+use Rattle.pd_sections.specs.Lexing.{Language, IsLongest, StartsNoPiece, FaultWithin}
+use Rattle.pd_sections.specs.Pieces.{is_digit, is_line_end, is_empty, piece_if, word, symbol_piece}
 use Rattle.pd_sections.specs.SlPieces.{is_white, is_name_start, is_name_part, keywords, is_symbol, is_pair, closes_text, closed_text, text_piece, is_slash, starts_with_slash, closes_comment, slash_piece, sl_piece}
-use Rattle.pd_sections.specs.Scanning.{Found}
-use Rattle.pd_sections.proofs.Finding.{Right, right_if, right_found_if, one_more, two_more, one_right, name_right, number_right, symbol_right}
-use Rattle.pd_sections.proofs.Longest.{Longest, longer, is_longest, as_many, FindsEnd, up_to_its_end, without_end, two, one}
-use Rattle.pd_sl_lex.specs.Scan.{text_end, found_text_at, comment_end, found_comment, found_slash, found_from, found_in}
+use Rattle.pd_sections.proofs.Longest.{Longest, longer, is_longest, alone, as_many, FindsEnd, up_to_its_end, without_end, one_at_the_end, two, one, none_at_the_end, none_before}
+use Rattle.pd_sl_lex.specs.Scan.{Found, found_name, found_number, text_end, found_text_at, comment_end, found_comment, found_slash, found_symbol, found_from, found_in}
 
 -- a front of no bytes has no bytes
 empty_front : (bytes : List ℕ) (m : ℕ) → m ≤ length bytes → is_empty (take m bytes) ≡ true → m ≡ 0
@@ -116,6 +115,14 @@ comment_ends (byte ∷ []) = record { found = λ n h. absurd (comment_end_of_byt
   only (suc (suc m)) h e = absurd (omega arith)
 comment_ends (byte ∷ next ∷ bytes) = comment_ends_more byte next bytes (comment_ends (next ∷ bytes))
 
+-- what the law says of what is found
+abbrev Right : List ℕ → Option Found → Type 0
+Right bytes found = MatchOption found (StartsNoPiece sl_piece bytes) (λ f. IsLongest sl_piece bytes f.0 f.1 × FaultWithin f.0 f.1)
+
+right_if : (bytes : List ℕ) (b : Bool) (x y : Option Found) → (b ≡ true → Right bytes x) → (b ≡ false → Right bytes y) → Right bytes (cond b x y)
+right_if bytes true x y h k = h refl
+right_if bytes false x y h k = k refl
+
 -- a fault of a text lies within it
 text_fault : (bytes : List ℕ) (before : ℕ) (b : Bool) → before ≤ length bytes → eqb before (length bytes) ≡ b
     → FaultWithin (cond b (Word Text) (Fault BadByte (1 + before))) (1 + length bytes)
@@ -126,8 +133,16 @@ text_fault bytes before false h e =
       | inr other ↦ omega arith
     ]
 
+one_more : (bytes : List ℕ) (piece : Piece) (n : ℕ) → Longest sl_piece bytes piece (suc n) → IsLongest sl_piece bytes piece (1 + n)
+one_more bytes piece n l = subst (λ k. IsLongest sl_piece bytes piece k) (sym (one-add n)) (is_longest sl_piece bytes piece (suc n) (omega arith) l)
+
+two_more : (bytes : List ℕ) (piece : Piece) (n : ℕ) → Longest sl_piece bytes piece (suc (suc n)) → IsLongest sl_piece bytes piece (2 + n)
+two_more bytes piece n l =
+    let same : suc (suc n) ≡ 2 + n = omega arith in
+    subst (λ k. IsLongest sl_piece bytes piece k) same (is_longest sl_piece bytes piece (suc (suc n)) (omega arith) l)
+
 text_right : (byte : ℕ) (bytes : List ℕ) → ((xs : List ℕ) → sl_piece (byte ∷ xs) ≡ text_piece xs) → (o : Option ℕ) → text_end bytes ≡ o
-    → Right sl_piece (byte ∷ bytes) (Some (found_text_at bytes o))
+    → Right (byte ∷ bytes) (Some (found_text_at bytes o))
 text_right byte bytes same None e = (
   is_longest sl_piece (byte ∷ bytes) (Fault OpenText 0) 1 (omega arith)
       (longer sl_piece text_piece byte bytes (Fault OpenText 0) 0 same (without_end closes_text text_end text_piece closed_text (Fault OpenText 0) (λ xs. refl) bytes (text_ends bytes) refl e)),
@@ -139,10 +154,14 @@ text_right byte bytes same (Some n) e =
     let whole : length front ≡ n = length-take-le n bytes found.1 in
     let before : ℕ = prefix_len (λ byte. not (eqb byte 92)) front in
     let fault : FaultWithin (closed_text front) (1 + length front) = text_fault front before (eqb before (length front)) (prefix_len-le-length (λ byte. not (eqb byte 92)) front) refl in (
-      one_more sl_piece (byte ∷ bytes) (closed_text front) n
+      one_more (byte ∷ bytes) (closed_text front) n
           (longer sl_piece text_piece byte bytes (closed_text front) n same (up_to_its_end closes_text text_end text_piece closed_text (Fault OpenText 0) (λ xs. refl) bytes (text_ends bytes) n e)),
       subst (λ k. FaultWithin (closed_text front) (1 + k)) whole fault,
     )
+
+right_found_if : (bytes : List ℕ) (b : Bool) (x y : Found) → (b ≡ true → Right bytes (Some x)) → (b ≡ false → Right bytes (Some y)) → Right bytes (Some (cond b x y))
+right_found_if bytes true x y h k = h refl
+right_found_if bytes false x y h k = k refl
 
 -- behind a `/*`
 abbrev comment_piece : List ℕ → Option Piece
@@ -150,7 +169,7 @@ comment_piece xs = cond (closes_comment xs) (Some Blank) (piece_if (is_empty xs)
 
 comment_right : (byte next : ℕ) (bytes : List ℕ) → ((xs : List ℕ) → sl_piece (byte ∷ xs) ≡ slash_piece xs)
     → ((xs : List ℕ) → slash_piece (next ∷ xs) ≡ comment_piece xs) → (o : Option ℕ) → comment_end bytes ≡ o
-    → Right sl_piece (byte ∷ next ∷ bytes) (Some (found_comment o))
+    → Right (byte ∷ next ∷ bytes) (Some (found_comment o))
 comment_right byte next bytes same slash None e = (
   is_longest sl_piece (byte ∷ next ∷ bytes) (Fault OpenComment 0) 2 (omega arith)
       (longer sl_piece slash_piece byte (next ∷ bytes) (Fault OpenComment 0) 1 same
@@ -159,7 +178,7 @@ comment_right byte next bytes same slash None e = (
   omega arith,
 )
 comment_right byte next bytes same slash (Some n) e = (
-  two_more sl_piece (byte ∷ next ∷ bytes) Blank n
+  two_more (byte ∷ next ∷ bytes) Blank n
       (longer sl_piece slash_piece byte (next ∷ bytes) Blank (suc n) same
       (longer slash_piece comment_piece next bytes Blank n slash
       (up_to_its_end closes_comment comment_end comment_piece (λ xs. Blank) (Fault OpenComment 0) (λ xs. refl) bytes (comment_ends bytes) n e))),
@@ -172,7 +191,7 @@ slash_alone next bytes e f = record { within = omega arith; is = refl; longest =
   more zero h k = absurd (omega arith)
   more (suc m) h k = rw (e, f) refl
 
-slash_right : (byte : ℕ) (bytes : List ℕ) → ((xs : List ℕ) → sl_piece (byte ∷ xs) ≡ slash_piece xs) → Right sl_piece (byte ∷ bytes) (Some (found_slash bytes))
+slash_right : (byte : ℕ) (bytes : List ℕ) → ((xs : List ℕ) → sl_piece (byte ∷ xs) ≡ slash_piece xs) → Right (byte ∷ bytes) (Some (found_slash bytes))
 slash_right byte [] same = (
   is_longest sl_piece (byte ∷ []) (Word Symbol) 1 (omega arith)
       (longer sl_piece slash_piece byte [] (Word Symbol) 0 same (record { within = omega arith; is = refl; longest = λ m h k. absurd (omega arith) })),
@@ -180,15 +199,15 @@ slash_right byte [] same = (
 )
 slash_right byte (next ∷ bytes) same =
     let goes_on : ℕ → Bool = λ c. not (is_line_end c) in
-    right_found_if sl_piece (byte ∷ next ∷ bytes) (eqb next 47) _ _
+    right_found_if (byte ∷ next ∷ bytes) (eqb next 47) _ _
     (λ e. (
-      two_more sl_piece (byte ∷ next ∷ bytes) Blank (prefix_len goes_on bytes)
+      two_more (byte ∷ next ∷ bytes) Blank (prefix_len goes_on bytes)
           (longer sl_piece slash_piece byte (next ∷ bytes) Blank (suc (prefix_len goes_on bytes)) same
           (longer slash_piece (λ xs. piece_if (list_all goes_on xs) Blank) next bytes Blank (prefix_len goes_on bytes) (λ xs. rw e refl)
           (as_many goes_on (λ xs. piece_if (list_all goes_on xs) Blank) (λ xs. Blank) bytes (λ xs. refl)))),
       tt,
     ))
-    (λ e. right_found_if sl_piece (byte ∷ next ∷ bytes) (eqb next 42) _ _
+    (λ e. right_found_if (byte ∷ next ∷ bytes) (eqb next 42) _ _
     (λ f. comment_right byte next bytes same (λ xs. rw (e, f) refl) (comment_end bytes) refl)
     (λ f. (
       is_longest sl_piece (byte ∷ next ∷ bytes) (Word Symbol) 1 (omega arith)
@@ -196,23 +215,94 @@ slash_right byte (next ∷ bytes) same =
       tt,
     )))
 
-from_right : (byte : ℕ) (bytes : List ℕ) → Right sl_piece (byte ∷ bytes) (found_from byte bytes)
+symbol_right : (byte : ℕ) (bytes : List ℕ) → ((xs : List ℕ) → sl_piece (byte ∷ xs) ≡ symbol_piece is_symbol is_pair byte xs)
+    → Right (byte ∷ bytes) (found_symbol byte bytes)
+symbol_right byte [] same =
+    right_if (byte ∷ []) (is_symbol byte) _ _
+    (λ e. (
+      is_longest sl_piece (byte ∷ []) (Word Symbol) 1 (omega arith)
+          (longer sl_piece (symbol_piece is_symbol is_pair byte) byte [] (Word Symbol) 0 same (one_at_the_end is_symbol is_pair byte e)),
+      tt,
+    ))
+    (λ e. none_at_the_end is_symbol is_pair byte sl_piece same e)
+symbol_right byte (next ∷ bytes) same =
+    right_if (byte ∷ next ∷ bytes) (is_pair byte next) _ _
+    (λ p. (
+      is_longest sl_piece (byte ∷ next ∷ bytes) (Word Symbol) 2 (omega arith)
+          (longer sl_piece (symbol_piece is_symbol is_pair byte) byte (next ∷ bytes) (Word Symbol) 1 same (two is_symbol is_pair byte next bytes p)),
+      tt,
+    ))
+    (λ p. right_if (byte ∷ next ∷ bytes) (is_symbol byte) _ _
+    (λ e. (
+      is_longest sl_piece (byte ∷ next ∷ bytes) (Word Symbol) 1 (omega arith)
+          (longer sl_piece (symbol_piece is_symbol is_pair byte) byte (next ∷ bytes) (Word Symbol) 0 same (one is_symbol is_pair byte next bytes e p)),
+      tt,
+    ))
+    (λ e. none_before is_symbol is_pair byte sl_piece next bytes same e p))
+
+name_right : (byte : ℕ) (bytes : List ℕ) → ((xs : List ℕ) → sl_piece (byte ∷ xs) ≡ piece_if (list_all is_name_part xs) (word keywords (byte ∷ xs)))
+    → Right (byte ∷ bytes) (Some (found_name byte bytes))
+name_right byte bytes same =
+    let n : ℕ = prefix_len is_name_part bytes in
+    let rule : Language = λ xs. piece_if (list_all is_name_part xs) (word keywords (byte ∷ xs)) in (
+      subst (λ k. IsLongest sl_piece (byte ∷ bytes) (word keywords (take k (byte ∷ bytes))) k) (sym (one-add n))
+          (is_longest sl_piece (byte ∷ bytes) (word keywords (byte ∷ take n bytes)) (suc n) (omega arith)
+          (longer sl_piece rule byte bytes (word keywords (byte ∷ take n bytes)) n same
+          (as_many is_name_part rule (λ xs. word keywords (byte ∷ xs)) bytes (λ xs. refl)))),
+      tt,
+    )
+
+number_right : (byte : ℕ) (bytes : List ℕ) → ((xs : List ℕ) → sl_piece (byte ∷ xs) ≡ piece_if (list_all is_digit xs) (Word Number))
+    → Right (byte ∷ bytes) (Some (found_number bytes))
+number_right byte bytes same =
+    let n : ℕ = prefix_len is_digit bytes in
+    let rule : Language = λ xs. piece_if (list_all is_digit xs) (Word Number) in (
+      one_more (byte ∷ bytes) (Word Number) n
+          (longer sl_piece rule byte bytes (Word Number) n same (as_many is_digit rule (λ xs. Word Number) bytes (λ xs. refl))),
+      tt,
+    )
+
+one_right : (byte : ℕ) (bytes : List ℕ) (piece : Piece) → FaultWithin piece 1 → ((xs : List ℕ) → sl_piece (byte ∷ xs) ≡ piece_if (is_empty xs) piece)
+    → Right (byte ∷ bytes) (Some (piece, 1))
+one_right byte bytes piece fault same = (
+  is_longest sl_piece (byte ∷ bytes) piece 1 (omega arith)
+      (longer sl_piece (λ xs. piece_if (is_empty xs) piece) byte bytes piece 0 same (alone (λ xs. piece_if (is_empty xs) piece) bytes piece refl (λ b xs. refl))),
+  fault,
+)
+
+from_right : (byte : ℕ) (bytes : List ℕ) → Right (byte ∷ bytes) (found_from byte bytes)
 from_right byte bytes =
     let all : List ℕ = byte ∷ bytes in
-    right_if sl_piece all (is_white byte) _ _ (λ a. one_right sl_piece byte bytes Blank tt (λ xs. rw a refl))
-    (λ a. right_if sl_piece all (is_name_start byte) _ _ (λ b. name_right sl_piece is_name_part keywords byte bytes (λ xs. rw (a, b) refl))
-    (λ b. right_if sl_piece all (eqb byte 48) _ _ (λ c. one_right sl_piece byte bytes (Word Number) tt (λ xs. rw (a, b, c) refl))
-    (λ c. right_if sl_piece all (is_digit byte) _ _ (λ d. number_right sl_piece byte bytes (λ xs. rw (a, b, c, d) refl))
-    (λ d. right_if sl_piece all (eqb byte 34) _ _ (λ e. text_right byte bytes (λ xs. rw (a, b, c, d, e) refl) (text_end bytes) refl)
-    (λ e. right_if sl_piece all (eqb byte 47) _ _ (λ f. slash_right byte bytes (λ xs. rw (a, b, c, d, e, f) refl))
-    (λ f. symbol_right sl_piece is_symbol is_pair byte bytes (λ xs. rw (a, b, c, d, e, f) refl)))))))
+    right_if all (is_white byte) _ _ (λ a. one_right byte bytes Blank tt (λ xs. rw a refl))
+    (λ a. right_if all (is_name_start byte) _ _ (λ b. name_right byte bytes (λ xs. rw (a, b) refl))
+    (λ b. right_if all (eqb byte 48) _ _ (λ c. one_right byte bytes (Word Number) tt (λ xs. rw (a, b, c) refl))
+    (λ c. right_if all (is_digit byte) _ _ (λ d. number_right byte bytes (λ xs. rw (a, b, c, d) refl))
+    (λ d. right_if all (eqb byte 34) _ _ (λ e. text_right byte bytes (λ xs. rw (a, b, c, d, e) refl) (text_end bytes) refl)
+    (λ e. right_if all (eqb byte 47) _ _ (λ f. slash_right byte bytes (λ xs. rw (a, b, c, d, e, f) refl))
+    (λ f. symbol_right byte bytes (λ xs. rw (a, b, c, d, e, f) refl)))))))
 
-pub found_right : (bytes : List ℕ) → Right sl_piece bytes (found_in bytes)
+pub found_right : (bytes : List ℕ) → MatchOption (found_in bytes) (StartsNoPiece sl_piece bytes) (λ f. IsLongest sl_piece bytes f.0 f.1 × FaultWithin f.0 f.1)
 found_right [] = record { none = λ m h k. absurd (omega arith) }
 found_right (byte ∷ bytes) = from_right byte bytes
 
-pub found_right_of : (bytes : List ℕ) (o : Option Found) → o ≡ found_in bytes → Right sl_piece bytes o
-found_right_of bytes o e = subst (λ o. Right sl_piece bytes o) (sym e) (found_right bytes)
+pub found_right_of : (bytes : List ℕ) (o : Option Found) → o ≡ found_in bytes
+    → MatchOption o (StartsNoPiece sl_piece bytes) (λ f. IsLongest sl_piece bytes f.0 f.1 × FaultWithin f.0 f.1)
+found_right_of bytes o e = subst (λ o. MatchOption o (StartsNoPiece sl_piece bytes) (λ f. IsLongest sl_piece bytes f.0 f.1 × FaultWithin f.0 f.1)) (sym e) (found_right bytes)
+
+pub some_part : (bytes : List ℕ) (o : Option Found) → MatchOption o (StartsNoPiece sl_piece bytes) (λ f. IsLongest sl_piece bytes f.0 f.1 × FaultWithin f.0 f.1)
+    → IfSome o (λ f. IsLongest sl_piece bytes f.0 f.1)
+some_part bytes None h = tt
+some_part bytes (Some f) h = h.0
+
+pub fault_part : (bytes : List ℕ) (o : Option Found) → MatchOption o (StartsNoPiece sl_piece bytes) (λ f. IsLongest sl_piece bytes f.0 f.1 × FaultWithin f.0 f.1)
+    → IfSome o (λ f. FaultWithin f.0 f.1)
+fault_part bytes None h = tt
+fault_part bytes (Some f) h = h.1
+
+pub none_part : (bytes : List ℕ) (o : Option Found) → MatchOption o (StartsNoPiece sl_piece bytes) (λ f. IsLongest sl_piece bytes f.0 f.1 × FaultWithin f.0 f.1)
+    → IfNone o (StartsNoPiece sl_piece bytes)
+none_part bytes None h = h
+none_part bytes (Some f) h = tt
 
 -- a comment that doesn't end here ends later
 later_end : (place : ℕ) (o : Option ℕ) → option_map (λ n. place + n) (option_map suc o) ≡ option_map (λ n. place + 1 + n) o

@@ -4,10 +4,20 @@ use Rattle.std.specs.Option.{option_map}
 use Rattle.std.specs.List.{prefix_len}
 use Rattle.pd_sections.specs.declared.TokenKind.TheVariants.{Number, Symbol}
 use Rattle.pd_sections.specs.declared.Rule.TheVariants.{OpenText, OpenComment}
+use Rattle.pd_sections.specs.declared.Piece.{Piece}
 use Rattle.pd_sections.specs.declared.Piece.TheVariants.{Blank, Word, Fault}
-use Rattle.pd_sections.specs.Pieces.{is_digit, is_line_end}
-use Rattle.pd_sections.specs.Scanning.{Found, found_name, found_number, found_symbol}
+use Rattle.pd_sections.specs.Pieces.{is_digit, is_line_end, word}
 use Rattle.pd_sections.specs.SlPieces.{is_white, is_name_start, is_name_part, keywords, is_symbol, is_pair, closed_text, starts_with_slash}
+
+-- a piece and its length
+abbrev pub Found : Type 0
+Found = Piece × ℕ
+
+abbrev pub found_name : ℕ → List ℕ → Found
+found_name byte bytes = let len : ℕ = 1 + prefix_len is_name_part bytes in (word keywords (take len (byte ∷ bytes)), len)
+
+abbrev pub found_number : List ℕ → Found
+found_number bytes = (Word Number, 1 + prefix_len is_digit bytes)
 
 -- how many bytes there are up to the end of a text, with its `"`
 abbrev pub text_end : List ℕ → Option ℕ
@@ -37,15 +47,19 @@ found_slash (byte ∷ bytes) =
     else if byte == 42 then found_comment (comment_end bytes)
     else (Word Symbol, 1)
 
+abbrev pub found_symbol : ℕ → List ℕ → Option Found
+found_symbol byte [] = if is_symbol byte then Some (Word Symbol, 1) else None
+found_symbol byte (next ∷ bytes) = if is_pair byte next then Some (Word Symbol, 2) else if is_symbol byte then Some (Word Symbol, 1) else None
+
 abbrev pub found_from : ℕ → List ℕ → Option Found
 found_from byte bytes =
     if is_white byte then Some (Blank, 1)
-    else if is_name_start byte then Some (found_name is_name_part keywords byte bytes)
+    else if is_name_start byte then Some (found_name byte bytes)
     else if byte == 48 then Some (Word Number, 1)
     else if is_digit byte then Some (found_number bytes)
     else if byte == 34 then Some (found_text bytes)
     else if byte == 47 then Some (found_slash bytes)
-    else found_symbol is_symbol is_pair byte bytes
+    else found_symbol byte bytes
 
 abbrev pub found_in : List ℕ → Option Found
 found_in [] = None

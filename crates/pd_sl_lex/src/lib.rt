@@ -6,9 +6,8 @@ ghost use Rattle.std.specs.List.{prefix_len, list_any};
 ghost use Rattle.pd_sections.specs.Pieces.{is_digit, is_line_end, word};
 ghost use Rattle.std.specs.Str.{bytes_eq};
 ghost use Rattle.pd_sections.specs.Lexing.{Splits, StopsAt, IsLongest, StartsNoPiece, FaultWithin};
-ghost use Rattle.pd_sections.specs.Scanning.{found_number, found_symbol};
 ghost use Rattle.pd_sections.specs.SlPieces.{is_white, is_name_start, is_name_part, keywords, is_symbol, is_pair, closed_text, starts_with_slash, sl_piece};
-ghost use Rattle.pd_sl_lex.specs.Scan.{text_end, comment_end, found_text, found_slash, found_from, found_in};
+ghost use Rattle.pd_sl_lex.specs.Scan.{text_end, comment_end, found_name, found_number, found_text, found_slash, found_symbol, found_from, found_in};
 
 use pd_sections::{Lexicon, MOST_BYTES, Piece, Refusal, Rule, Source, Stop, TokenKind, Tokens};
 use std::alloc::Global;
@@ -196,7 +195,7 @@ fn ends_comment(byte: u8, next: &[u8]) -> bool
 }
 
 fn found_symbol(first: u8, rest: &[u8]) -> Option<(Piece, u32)>
-    ensures { result ≡ found_symbol is_symbol is_pair first rest.now }
+    ensures { result ≡ found_symbol first rest.now }
 {
     match rest {
         [next, ..] if is_pair(first, *next) => Some((Piece::Word(TokenKind::Symbol), 2)),

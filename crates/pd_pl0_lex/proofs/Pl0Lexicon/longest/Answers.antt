@@ -1,5 +1,5 @@
 use Rattle.pd_sections.specs.Pl0Pieces.{pl0_piece}
-use Rattle.pd_sections.proofs.Finding.{some_part, fault_part, none_part}
+use Rattle.pd_pl0_lex.proofs.FoundPieces.{some_part, fault_part, none_part}
 use Rattle.pd_pl0_lex.proofs.Finding.{found_right_of}
 use Rattle.pd_pl0_lex.proofs.Pl0Lexicon.longest.Goals as goal
 

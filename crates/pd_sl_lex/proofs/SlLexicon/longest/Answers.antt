@@ -1,13 +1,11 @@
-use Rattle.pd_sections.specs.SlPieces.{sl_piece}
-use Rattle.pd_sections.proofs.Finding.{some_part, fault_part, none_part}
-use Rattle.pd_sl_lex.proofs.Finding.{found_right_of}
+use Rattle.pd_sl_lex.proofs.Finding.{found_right_of, some_part, fault_part, none_part}
 use Rattle.pd_sl_lex.proofs.SlLexicon.longest.Goals as goal
 
 pub returns-clause-some : goal.returns-clause-some
-returns-clause-some c = some_part sl_piece c.args.bytes.now _ (found_right_of c.args.bytes.now _ c.found_in.ensures)
+returns-clause-some c = some_part c.args.bytes.now _ (found_right_of c.args.bytes.now _ c.found_in.ensures)
 
 pub returns-clause-fault : goal.returns-clause-fault
-returns-clause-fault c = fault_part sl_piece c.args.bytes.now _ (found_right_of c.args.bytes.now _ c.found_in.ensures)
+returns-clause-fault c = fault_part c.args.bytes.now _ (found_right_of c.args.bytes.now _ c.found_in.ensures)
 
 pub returns-clause-none : goal.returns-clause-none
-returns-clause-none c = none_part sl_piece c.args.bytes.now _ (found_right_of c.args.bytes.now _ c.found_in.ensures)
+returns-clause-none c = none_part c.args.bytes.now _ (found_right_of c.args.bytes.now _ c.found_in.ensures)

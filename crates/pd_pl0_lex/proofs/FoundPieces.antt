@@ -1,4 +1,4 @@
--- What is found is the longest piece that the bytes begin with: the law's parts that the languages share.
+-- What is found is the longest piece that the bytes begin with: by the kinds of pieces.
 use Rattle.std.proofs.Common.{◌≡◌, ℕ, ◌+◌, suc, Bool, true, false, cond, List, [], ◌∷◌, take, Option, Some, None, refl, sym, subst, arith}
 use Rattle.std.proofs.Math.Numerals.{one-add}
 use Rattle.std.specs.List.{list_all, prefix_len}
@@ -8,7 +8,7 @@ use Rattle.pd_sections.specs.declared.Piece.{Piece}
 use Rattle.pd_sections.specs.declared.Piece.TheVariants.{Word}
 use Rattle.pd_sections.specs.Lexing.{Language, IsLongest, StartsNoPiece, FaultWithin}
 use Rattle.pd_sections.specs.Pieces.{is_digit, is_empty, piece_if, word, symbol_piece}
-use Rattle.pd_sections.specs.Scanning.{Found, found_name, found_number, found_symbol}
+use Rattle.pd_pl0_lex.specs.Scanning.{Found, found_name, found_number, found_symbol}
 use Rattle.pd_sections.proofs.Longest.{Longest, longer, is_longest, alone, as_many, one_at_the_end, two, one, none_at_the_end, none_before}
 
 -- what is found is right

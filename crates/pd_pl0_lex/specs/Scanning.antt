@@ -1,4 +1,4 @@
--- The longest pieces that the languages share, found from the left: what their lexers compute.
+-- The longest pieces by their kinds, found from the left: what the lexer computes.
 use Rattle.std.specs.Prelude.{ℕ, ◌+◌, Bool, if◌then◌else◌, List, [], ◌∷◌, take, Option, Some, None}
 use Rattle.std.specs.List.{prefix_len}
 use Rattle.pd_sections.specs.declared.TokenKind.TheVariants.{Number, Symbol}
