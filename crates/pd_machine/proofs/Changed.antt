@@ -2,7 +2,6 @@
 use Rattle.std.proofs.Common.{◌≡◌, ℕ, zero, suc, ◌-◌, ◌<◌, ◌≤◌, List, [], ◌∷◌, length, Option, Some, None, set, get_or, refl, sym, ap, ◌∙◌, arith}
 use Rattle.std.specs.Prelude.{slice_get, nat_lt, if◌then◌else◌, cond}
 use Rattle.std.proofs.lemmas.Bool.{cond-true, lt-ltb}
-use Rattle.pd_values.specs.declared.value.Value.{Value}
 use Rattle.pd_machine.specs.declared.run.Frame.{Frame}
 use Rattle.pd_machine.specs.declared.run.Home.{Home}
 use Rattle.pd_machine.specs.declared.run.Home.TheVariants.{InFrame, InMain}

@@ -1,5 +1,5 @@
 -- Where a machine leads, when only the verdicts on the events so far are known.
-use Rattle.std.specs.Prelude.{◌≡◌, ℕ, ◌<◌, List, [], ◌∷◌, length, Some}
+use Rattle.std.specs.Prelude.{◌≡◌, ℕ, ◌<◌, [], ◌∷◌, length, Some}
 use Rattle.pd_tree.specs.Program.{Program}
 use Rattle.pd_meaning.specs.Meaning.{Verdicts, verdict_at, from_root}
 use Rattle.pd_meaning.specs.Machine.{Machine, point}

@@ -8,7 +8,6 @@ use Rattle.pd_machine.specs.declared.run.Pending.TheVariants.{Leaving}
 use Rattle.pd_machine.specs.declared.run.Mode.{Mode}
 use Rattle.pd_machine.specs.declared.run.Mode.TheVariants.{Entering, Coming}
 use Rattle.pd_machine.specs.declared.run.NodeResult.TheVariants.{Gives}
-use Rattle.pd_machine.specs.declared.event.Event.{Event}
 use Rattle.pd_machine.specs.declared.event.EventKind.{EventKind}
 use Rattle.pd_machine.specs.declared.event.EventKind.TheVariants.{Enter, Return as Gave, Leave}
 use Rattle.pd_machine.specs.declared.event.Verdict.{Verdict}

@@ -1,5 +1,5 @@
-use Rattle.std.proofs.Common.{◌≡◌, ◌<◌, ◌-◌, length, Some, subst, sym, ap, ◌∙◌, arith, get_or}
-use Rattle.pd_machine.specs.Events.{Scene, standing, frame_of, root_of}
+use Rattle.std.proofs.Common.{◌≡◌, ◌<◌, ◌-◌, length, Some, subst, sym, ap, ◌∙◌, get_or}
+use Rattle.pd_machine.specs.Events.{Scene, frame_of, root_of}
 use Rattle.pd_machine.proofs.Changed.{standing_root, frame_at, length_of_changed}
 use Rattle.pd_machine.proofs.scene.Scene.root.Goals as goal
 

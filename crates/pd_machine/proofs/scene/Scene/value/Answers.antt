@@ -1,5 +1,5 @@
 use Rattle.std.proofs.Common.{◌≡◌, subst, sym, ◌∙◌, option_copied}
-use Rattle.pd_machine.specs.Events.{Scene, standing, scene_value}
+use Rattle.pd_machine.specs.Events.{Scene, scene_value}
 use Rattle.pd_machine.proofs.Changed.{standing_value}
 use Rattle.pd_machine.proofs.scene.Scene.value.Goals as goal
 
