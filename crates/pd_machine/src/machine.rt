@@ -92,7 +92,10 @@ impl Machine {
         ensures mode { result ≡ self.old.mode }
         ensures rest { self.new ≡ record self.old { mode = Mode.Coming (NodeResult.Stops Cutoff.WasKilled) } }
     {
-        mem::replace(&mut self.mode, Mode::Coming(NodeResult::Stops(Cutoff::WasKilled)))
+        mem::replace(
+            &mut self.mode,
+            Mode::Coming(NodeResult::Stops(Cutoff::WasKilled)),
+        )
     }
 
     /// Says what is done next.
@@ -213,7 +216,13 @@ impl Machine {
     pub fn value(&self, up: u32, slot: u32) -> Option<&Value>
         ensures { option_copied result ≡ scene_value (scene_of self.now) 0 up slot }
     {
-        value_at(self.frames.as_slice(), self.mains.as_slice(), 0, up as usize, slot as usize)
+        value_at(
+            self.frames.as_slice(),
+            self.mains.as_slice(),
+            0,
+            up as usize,
+            slot as usize,
+        )
     }
 
     /// Writes that variable.
@@ -222,7 +231,12 @@ impl Machine {
         ensures { self.new ≡ with_scene self.old (set_variable (scene_of self.old) up slot value) }
     {
         match home_of(&self.frames, up as usize) {
-            Some(Home::InFrame(k)) => set_in_frame(&mut self.frames, k as usize, slot as usize, value),
+            Some(Home::InFrame(k)) => set_in_frame(
+                &mut self.frames,
+                k as usize,
+                slot as usize,
+                value,
+            ),
             Some(Home::InMain(k)) => set_in_main(&mut self.mains, k as usize, slot as usize, value),
             None => {}
         }

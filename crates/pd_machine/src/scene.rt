@@ -32,7 +32,11 @@ impl<'a> Scene<'a> {
         requires { length frames.now ≤ 2000 }
         ensures { result ≡ standing node (record { frames = frames.now; mains = mains.now }) }
     {
-        Scene { frames, mains, node }
+        Scene {
+            frames,
+            mains,
+            node,
+        }
     }
 
     /// The number of frames.
@@ -70,7 +74,13 @@ impl<'a> Scene<'a> {
     pub fn value(&self, i: u32, up: u32, slot: u32) -> Option<&Value>
         ensures { option_copied result ≡ scene_value self.now i up slot }
     {
-        value_at(self.frames, self.mains, i as usize, up as usize, slot as usize)
+        value_at(
+            self.frames,
+            self.mains,
+            i as usize,
+            up as usize,
+            slot as usize,
+        )
     }
 }
 

@@ -1,0 +1,5 @@
+pub mod Words
+pub mod Lines
+pub mod Transcript
+pub mod Loading
+pub mod Answers
