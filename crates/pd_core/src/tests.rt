@@ -1,7 +1,7 @@
-ghost use Rattle.std.specs.Prelude.{◌≡◌, ◌<◌, IfOk};
+ghost use Rattle.std.specs.Prelude.{◌≡◌, ◌<◌, ◌≤◌, true, IfOk, IfSome};
 ghost use Rattle.pd_core.specs.Layout.{bindings, layout_of};
-ghost use Rattle.pd_core.specs.Views.{first_view};
-ghost use Rattle.pd_core.specs.Examples.{one_binding};
+ghost use Rattle.pd_core.specs.Views.{first_view, known, found_attached};
+ghost use Rattle.pd_core.specs.Examples.{one_binding, IsAttached};
 
 use crate::hub::{Core, Pass, bits_come_by_set_bit, every_run_is_good};
 use crate::word::{has_bit, is_attached, is_disposed, is_live, is_off, sum_of};
@@ -160,6 +160,156 @@ fn one_thread_disposes(rt: HostRuntime) -> Result<(), AllocError> {
             words.as_slice(),
             [0, 0, 0, 0, 0, 0, 0, 0, 0, 0, 0, 0, 0, 0, 0, 0, 2, 0, 0].as_slice()
         );
+    }
+    Ok(())
+}
+
+// Attaches the binding, and tells whether it was not disposed.
+fn attach(core: &Core, p: &mut Pass) -> bool
+    requires { (p.old.id ≡ core.now.id) × (core.now.layout ≡ one_binding) × (p.old.view ≡ first_view) }
+    ensures id { p.new.id ≡ p.old.id }
+    ensures attached { result ≡ true → IsAttached p.new.view }
+{
+    core.set_bit(p, 3, 0);
+    core.set_summary(p, 3, 0);
+    let made = core.set_attached(p, 0);
+    !is_disposed(made)
+}
+
+const NONE: u64 = 63;
+
+// Draws twice from the binding: the numbers drawn, below `NONE`, where it was live.
+fn draw_twice(core: &Core, mut p: Pass) -> (Pass, [u64; 2])
+    requires { (p.id ≡ core.now.id) × (core.now.layout ≡ one_binding) × (known p.view 0 ≡ found_attached) × (2 ≤ p.view.draw_share) }
+    ensures { result.0.id ≡ p.id }
+{
+    let one = core.add_draw(&mut p, 0, 0);
+    if !is_live(one) {
+        return (p, [NONE, NONE]);
+    }
+    let two = core.add_draw(&mut p, 1, 0);
+    (
+        p,
+        [sum_of(one), if is_live(two) { sum_of(two) } else { NONE }],
+    )
+}
+
+// Draws, switches the binding off and on, draws again and disposes of it: the numbers, and the count that was found.
+fn draw_and_dispose(core: &Core, mut p: Pass) -> (Pass, [u64; 2], u64)
+    requires { (p.id ≡ core.now.id) × (core.now.layout ≡ one_binding) × (known p.view 0 ≡ found_attached) × (2 ≤ p.view.draw_share) }
+    ensures { result.0.id ≡ p.id }
+{
+    let (mut p, drawn) = draw_twice(core, p);
+    core.set_off(&mut p, 0);
+    core.clear_off(&mut p, 0);
+    let old = core.set_disposed(&mut p, 0);
+    (p, drawn, sum_of(old))
+}
+
+// Three threads draw beside one that draws, toggles and disposes: the numbers that they got, as bits, how many, and the count.
+fn draw_beside<R: Threads + Sync>(
+    rt: &R,
+    core: &Core,
+    first: Pass,
+    second: Pass,
+    third: Pass,
+    fourth: Pass,
+) -> (Pass, u64, u64, u64)
+    requires { (core.now.layout ≡ one_binding) × ((first.id ≡ core.now.id) × (known first.view 0 ≡ found_attached) × (2 ≤ first.view.draw_share)) × ((second.id ≡ core.now.id) × (known second.view 0 ≡ found_attached) × (2 ≤ second.view.draw_share)) × ((third.id ≡ core.now.id) × (known third.view 0 ≡ found_attached) × (2 ≤ third.view.draw_share)) × ((fourth.id ≡ core.now.id) × (known fourth.view 0 ≡ found_attached) × (2 ≤ fourth.view.draw_share)) }
+    ensures { result.0.id ≡ core.now.id }
+{
+    let (one, others) = thread::join(
+        rt,
+        move || -> (Pass, [u64; 2], u64)
+            requires { (first.id ≡ core.now.id) × (core.now.layout ≡ one_binding) × (known first.view 0 ≡ found_attached) × (2 ≤ first.view.draw_share) }
+            ensures { result.0.id ≡ core.entry.now.id }
+        { draw_and_dispose(core, first) },
+        move || -> ((Pass, [u64; 2]), ((Pass, [u64; 2]), (Pass, [u64; 2])))
+            requires { ((second.id ≡ core.now.id) × (core.now.layout ≡ one_binding) × (known second.view 0 ≡ found_attached) × (2 ≤ second.view.draw_share)) × ((third.id ≡ core.now.id) × (known third.view 0 ≡ found_attached) × (2 ≤ third.view.draw_share)) × ((fourth.id ≡ core.now.id) × (known fourth.view 0 ≡ found_attached) × (2 ≤ fourth.view.draw_share)) }
+            ensures { (result.0.0.id ≡ core.entry.now.id) × (result.1.0.0.id ≡ core.entry.now.id) × (result.1.1.0.id ≡ core.entry.now.id) }
+        {
+            thread::join(
+                rt,
+                move || -> (Pass, [u64; 2])
+                    requires { (second.id ≡ core.now.id) × (core.now.layout ≡ one_binding) × (known second.view 0 ≡ found_attached) × (2 ≤ second.view.draw_share) }
+                    ensures { result.0.id ≡ core.entry.now.id }
+                { draw_twice(core, second) },
+                move || -> ((Pass, [u64; 2]), (Pass, [u64; 2]))
+                    requires { (core.now.layout ≡ one_binding) × ((third.id ≡ core.now.id) × (known third.view 0 ≡ found_attached) × (2 ≤ third.view.draw_share)) × ((fourth.id ≡ core.now.id) × (known fourth.view 0 ≡ found_attached) × (2 ≤ fourth.view.draw_share)) }
+                    ensures { (result.0.0.id ≡ core.entry.now.id) × (result.1.0.id ≡ core.entry.now.id) }
+                {
+                    thread::join(
+                        rt,
+                        move || -> (Pass, [u64; 2])
+                            requires { (third.id ≡ core.now.id) × (core.now.layout ≡ one_binding) × (known third.view 0 ≡ found_attached) × (2 ≤ third.view.draw_share) }
+                            ensures { result.0.id ≡ core.entry.now.id }
+                        { draw_twice(core, third) },
+                        move || -> (Pass, [u64; 2])
+                            requires { (fourth.id ≡ core.now.id) × (core.now.layout ≡ one_binding) × (known fourth.view 0 ≡ found_attached) × (2 ≤ fourth.view.draw_share) }
+                            ensures { result.0.id ≡ core.entry.now.id }
+                        { draw_twice(core, fourth) },
+                    )
+                },
+            )
+        },
+    );
+    let (mut p, a, count) = one;
+    let (two, rest) = others;
+    let (q, b) = two;
+    let (three, four) = rest;
+    let (r, c) = three;
+    let (s, d) = four;
+    core.join(&mut p, q);
+    core.join(&mut p, r);
+    core.join(&mut p, s);
+    let (seen, got) = tally(&[a, b, c, d]);
+    (p, seen, got, count)
+}
+
+// One round: attaches, splits in four, and draws beside the disposal.
+fn round<R: Threads + Sync>(rt: &R, core: &Core, mut p: Pass) -> Option<(Pass, u64, u64, u64)>
+    requires { (p.id ≡ core.now.id) × (core.now.layout ≡ one_binding) × (p.view ≡ first_view) }
+    ensures { IfSome result (λ r. r.0.id ≡ core.now.id) }
+{
+    let ready = attach(core, &mut p);
+    if !ready {
+        return None;
+    }
+    let q = core.split(&mut p);
+    let r = core.split(&mut p);
+    let s = core.split(&mut p);
+    Some(draw_beside(rt, core, p, q, r, s))
+}
+
+// Which numbers were drawn, as bits, and how many.
+fn tally(drawn: &[[u64; 2]; 4]) -> (u64, u64) {
+    let mut seen = 0u64;
+    let mut got = 0u64;
+    for pair in drawn {
+        for n in pair {
+            if *n < NONE {
+                seen |= 1 << *n;
+                got = got.wrapping_add(1);
+            }
+        }
+    }
+    (seen, got)
+}
+
+#[test]
+fn numbers_once_each(rt: HostRuntime) -> Result<(), AllocError> {
+    for _ in 0..100 {
+        let (core, p) = fixture(rt.alloc())?;
+        match round(&rt, &core, p) {
+            None => assert!(rt; false, "the binding is attached"),
+            Some((last, seen, got, count)) => {
+                // the numbers below the count, each once
+                assert_eq!(rt; got, count);
+                assert!(rt; count < NONE);
+                assert_eq!(rt; seen, (1 << count) - 1);
+                core.close(rt.alloc(), last)?;
+            }
+        }
     }
     Ok(())
 }
