@@ -1,0 +1,13 @@
+//! The parser of SL: the tree of a source, or the first breach of a rule.
+#![tactic(auto)]
+
+mod build;
+mod kinds;
+mod scope;
+mod texts;
+
+pub use build::parse;
+pub use scope::{Scope, Variable};
+
+#[cfg(test)]
+mod tests;
