@@ -1,0 +1,5 @@
+pub mod Entered
+pub mod Came
+pub mod Started
+pub mod Standing
+pub mod Begun

@@ -1,0 +1,6 @@
+//! What PL/0 nodes make of the values of their parts.
+#![tactic(auto)]
+
+mod rules;
+
+pub use rules::combine;

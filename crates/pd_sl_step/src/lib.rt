@@ -1,0 +1,6 @@
+//! What SL nodes make of the values of their parts.
+#![tactic(auto)]
+
+mod rules;
+
+pub use rules::combine;
