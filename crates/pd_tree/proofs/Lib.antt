@@ -1,3 +1,1 @@
 pub mod Kept
-pub mod Lists
-pub mod Shapes

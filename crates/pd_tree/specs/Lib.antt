@@ -4,4 +4,3 @@ pub mod Kinds
 pub mod Linked
 pub mod WellFormed
 pub mod Kept
-pub mod Linking

@@ -37,7 +37,7 @@ impl Tree {
     }
 
     /// The nodes as they were added, to keep. It takes no memory.
-    pub(crate) fn into_additions(self) -> Vec<Addition>
+    pub fn into_additions(self) -> Vec<Addition>
         ensures value { result.items ≡ self }
         ensures whole { IsWhole self }
     {

@@ -6,14 +6,13 @@ mod builder;
 mod kind;
 mod place;
 mod program;
-mod shape;
 mod tags;
-mod walk;
 
 pub use addition::Addition;
 pub use builder::{Builder, Tree};
 pub use kind::{Kind, Meaning, Operator, Visible};
-pub use program::Program;
+pub use place::{Place, Span, stretch};
+pub use program::{Lists, Program};
 
 #[cfg(test)]
 mod tests;

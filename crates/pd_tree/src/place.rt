@@ -33,10 +33,3 @@ pub fn stretch<T>(items: &[T], span: Span) -> &[T]
 {
     &items[span.from..][..span.len]
 }
-
-/// The parts of a node, a stretch of a program's parts, and how many slots the assignments behind it use.
-#[derive(Clone, Copy, Drop)]
-pub struct Shape {
-    pub parts: Span,
-    pub assigned: u32,
-}

@@ -3,7 +3,7 @@ ghost use Rattle.std.specs.Prelude.{◌≡◌, ◌<◌, length, slice_index, sli
 ghost use Rattle.pd_tree.specs.Program.{node_at, item_at, item_names, has_tag};
 ghost use Rattle.pd_tree.specs.Kinds.{root_name_of};
 ghost use Rattle.pd_tree.specs.WellFormed.{IsWellFormed, IsLinked};
-ghost use Rattle.pd_tree.specs.Kept.{IsAdditionOf, IsPlaceOf};
+ghost use Rattle.pd_tree.specs.Kept.{kept_program, IsKept, IsAdditionOf, IsPlaceOf};
 
 use crate::addition::Addition;
 use crate::kind::{Kind, Meaning, Visible};
@@ -12,6 +12,27 @@ use crate::tags::{has_tag, tags};
 use pd_sections::Section;
 use pd_values::{NodeId, Tag, Text};
 use std::marker::Model;
+
+/// The lists that keep a linked program.
+#[derive(Drop)]
+pub struct Lists {
+    /// The nodes of all sources as they were added, by number.
+    pub additions: Vec<Addition>,
+    /// Beside each node its place.
+    pub places: Vec<Place>,
+    /// The parts of all nodes; a place has a stretch of them.
+    pub parts: Vec<NodeId>,
+    /// The variables that nodes see; a place has a stretch of them.
+    pub variables: Vec<Visible>,
+    /// The names of the items.
+    pub names: Vec<Text>,
+    /// The root of each item, if it has one.
+    pub roots: Vec<Option<u32>>,
+    /// The main block of each source, if it has one.
+    pub mains: Vec<Option<u32>>,
+    /// The item that each context calls.
+    pub entries: Vec<u32>,
+}
 
 /// A linked program: the nodes of all sources by their numbers, the items, and the entries of the contexts.
 #[derive(Drop)]
@@ -43,6 +64,27 @@ impl Model for Program {
 }
 
 impl Program {
+    /// The program that these lists keep. It takes no memory.
+    pub fn keep(lists: Lists) -> Program
+        requires kept { IsKept lists.parts.items lists.variables.items lists.additions.items lists.places.items
+            lists.names.items lists.roots.items }
+        requires linked { IsWellFormed (kept_program lists.parts.items lists.variables.items lists.additions.items
+            lists.places.items lists.names.items lists.roots.items lists.mains.items lists.entries.items) }
+        ensures { result ≡ kept_program lists.parts.items lists.variables.items lists.additions.items
+            lists.places.items lists.names.items lists.roots.items lists.mains.items lists.entries.items }
+    {
+        Program {
+            additions: lists.additions,
+            places: lists.places,
+            parts: lists.parts,
+            variables: lists.variables,
+            names: lists.names,
+            roots: lists.roots,
+            mains: lists.mains,
+            entries: lists.entries,
+        }
+    }
+
     /// How many nodes there are; their numbers are below that.
     pub fn nodes(&self) -> u32
         ensures count { result ≡ length self.now.nodes }

@@ -1,5 +1,5 @@
 use Rattle.std.proofs.Common.{◌≡◌, ◌++◌, take, drop, reverse}
-use Rattle.pd_tree.proofs.shape.take_tops.Given as goal
+use Rattle.pd_link.proofs.shape.take_tops.Given as goal
 
 abbrev pub invariant-loop : goal.invariant-loop
 invariant-loop l = record {

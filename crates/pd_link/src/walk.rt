@@ -1,5 +1,5 @@
 //! The walk over the nodes: in which function or procedure each stands, and which variables it sees.
-use crate::place::Span;
+use pd_tree::Span;
 use pd_values::NodeId;
 
 /// A node of which parts may still come.

@@ -2,11 +2,11 @@
 use Rattle.std.proofs.Common.{◌≡◌, refl, sym, ◌∙◌, ap, ℕ, zero, suc, ◌+◌, ◌-◌, ◌≤◌, List, [], ◌∷◌, ◌++◌, length, take, drop, map, reverse, arith, length-take, length-drop, length-append}
 use Rattle.std.proofs.lemmas.List.{reverse-append, map-append}
 use Rattle.pd_tree.specs.declared.addition.Addition.{Addition}
-use Rattle.pd_tree.specs.declared.place.Shape.{Shape}
+use Rattle.pd_link.specs.declared.shape.Shape.{Shape}
 use Rattle.pd_tree.specs.Linked.{tops, assigned_slots, AllComplete}
 use Rattle.pd_tree.specs.Kept.{stretch}
-use Rattle.pd_tree.specs.Linking.{Late, late_from, late_in, ShapesFrom, AllShapesIn}
-use Rattle.pd_tree.proofs.Lists.{stretch-grow, drop-end, take-twice}
+use Rattle.pd_link.specs.Linking.{Late, late_from, late_in, ShapesFrom, AllShapesIn}
+use Rattle.pd_link.proofs.Lists.{stretch-grow, drop-end, take-twice}
 
 pub length-tops : (m n : ℕ) (rest : List Addition) → length (tops m rest) ≡ length (tops n rest)
 length-tops m n [] = refl

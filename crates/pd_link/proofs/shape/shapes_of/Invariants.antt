@@ -1,7 +1,7 @@
 use Rattle.std.proofs.Common.{◌≡◌, ◌^◌, ◌<◌, ◌≤◌, length, drop, reverse}
 use Rattle.pd_tree.specs.Linked.{tops, assigned_slots}
-use Rattle.pd_tree.specs.Linking.{ShapesFrom}
-use Rattle.pd_tree.proofs.shape.shapes_of.Given as goal
+use Rattle.pd_link.specs.Linking.{ShapesFrom}
+use Rattle.pd_link.proofs.shape.shapes_of.Given as goal
 
 abbrev pub invariant-loop-n : goal.invariant-loop-n
 invariant-loop-n l = record {

@@ -1,7 +1,7 @@
 use Rattle.std.proofs.Common.{◌≡◌, ◌∙◌, sym, ap, [], ◌∷◌, take, drop, reverse, append_assoc}
 use Rattle.std.proofs.lemmas.List.{reverse-append}
-use Rattle.pd_tree.proofs.Lists.{drop-next, take-next}
-use Rattle.pd_tree.proofs.shape.take_tops.Goals as goal
+use Rattle.pd_link.proofs.Lists.{drop-next, take-next}
+use Rattle.pd_link.proofs.shape.take_tops.Goals as goal
 
 pub loop-preserved : goal.loop-preserved
 loop-preserved c =

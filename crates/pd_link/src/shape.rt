@@ -1,13 +1,18 @@
 //! The parts of each node, and how many variables each function has.
 ghost use Rattle.std.specs.Prelude.{◌≡◌, ◌+◌, ◌-◌, ◌*◌, ◌<◌, ◌≤◌, ◌^◌, ◌++◌, length, take, drop, reverse, vec_len, IfOk, OnOk};
 ghost use Rattle.pd_tree.specs.Linked as definition;
-ghost use Rattle.pd_tree.specs.Linking.{ShapesFrom};
+ghost use Rattle.pd_link.specs.Linking.{ShapesFrom};
 
-use crate::addition::Addition;
-use crate::kind::{Kind, Meaning};
-use crate::place::{Shape, Span};
+use pd_tree::{Addition, Kind, Meaning, Span};
 use pd_values::NodeId;
 use std::alloc::{AllocError, Global};
+
+/// The parts of a node, a stretch of a program's parts, and how many slots the assignments behind it use.
+#[derive(Clone, Copy, Drop)]
+pub struct Shape {
+    pub parts: Span,
+    pub assigned: u32,
+}
 
 /// The parts of all nodes, and for each node, from the last to the first, where its own are.
 #[derive(Drop)]

@@ -1,9 +1,9 @@
 use Rattle.std.proofs.Common.{◌≡◌, refl, ◌∙◌, ap, subst, ◌+◌, ◌-◌, ◌≤◌, [], ◌∷◌, take, drop, reverse, length, arith}
 use Rattle.std.proofs.lemmas.List.{length-reverse, reverse-append}
 use Rattle.pd_tree.specs.Linked.{tops, AllComplete, more_slots}
-use Rattle.pd_tree.proofs.Lists.{drop-before}
-use Rattle.pd_tree.proofs.Shapes.{length-tops, complete-drop, shapes-step}
-use Rattle.pd_tree.proofs.shape.shapes_of.Goals as goal
+use Rattle.pd_link.proofs.Lists.{drop-before}
+use Rattle.pd_link.proofs.Shapes.{length-tops, complete-drop, shapes-step}
+use Rattle.pd_link.proofs.shape.shapes_of.Goals as goal
 
 pub take_tops-requires : goal.take_tops-requires
 take_tops-requires c =

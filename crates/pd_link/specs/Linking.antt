@@ -3,8 +3,8 @@ use Rattle.std.specs.Prelude.{◌≡◌, ℕ, ◌+◌, ◌≤◌, List, [], ◌�
 use Rattle.pd_tree.specs.declared.kind.Visible.{Visible}
 use Rattle.pd_tree.specs.declared.addition.Addition.{Addition}
 use Rattle.pd_tree.specs.declared.place.Span.{Span}
-use Rattle.pd_tree.specs.declared.place.Shape.{Shape}
-use Rattle.pd_tree.specs.declared.walk.Opened.{Opened}
+use Rattle.pd_link.specs.declared.shape.Shape.{Shape}
+use Rattle.pd_link.specs.declared.walk.Opened.{Opened}
 use Rattle.pd_tree.specs.Linked.{Open, Walk, parts_of, assigned_slots}
 use Rattle.pd_tree.specs.Kept.{stretch}
 
