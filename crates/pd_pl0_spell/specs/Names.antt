@@ -1,0 +1,124 @@
+-- The declarations that are visible at a place, and the rules on names.
+use Rattle.std.specs.Prelude.{ℕ, Bool, true, false, if◌then◌else◌, List, [], ◌∷◌, Option, Some, None, bytes_eq}
+
+pub data Rule : Type 0 where
+  Unexpected : Rule
+  LiteralTooLarge : Rule
+  Doubled : Rule
+  Undeclared : Rule
+  NotAssignable : Rule
+  NotAProcedure : Rule
+  NotAValue : Rule
+  TooDeep : Rule
+  TooManyNodes : Rule
+
+-- what a name is declared as: a constant with its value, a variable, a procedure
+pub data Kind : Type 0 where
+  AConstant : ℕ → Kind
+  AVariable : Kind
+  AProcedure : Kind
+
+pub record Declaration : Type 0 where
+  pub name : List ℕ
+  pub kind : Kind
+
+-- the declarations so far of the block itself, the latest first, and of the blocks around it, the innermost first
+pub record Scope : Type 0 where
+  pub own : List Declaration
+  pub around : List (List Declaration)
+
+abbrev pub no_declarations : Scope
+no_declarations = record { own = []; around = [] }
+
+abbrev pub declare : List ℕ → Kind → Scope → Scope
+declare x k s = record { own = record { name = x; kind = k } ∷ s.own; around = s.around }
+
+-- the scope at the beginning of a block inside this one
+abbrev pub entered : Scope → Scope
+entered s = record { own = []; around = s.own ∷ s.around }
+
+abbrev pub found : List ℕ → List Declaration → Option Kind
+found x [] = None
+found x (d ∷ ds) = if bytes_eq x d.name then Some d.kind else found x ds
+
+-- an inner declaration hides an outer one
+abbrev pub or_outer : Option Kind → Option Kind → Option Kind
+or_outer None outer = outer
+or_outer (Some k) outer = Some k
+
+abbrev pub found_around : List ℕ → List (List Declaration) → Option Kind
+found_around x [] = None
+found_around x (ds ∷ blocks) = or_outer (found x ds) (found_around x blocks)
+
+-- what a visible name is declared as
+abbrev pub visible : List ℕ → Scope → Option Kind
+visible x s = or_outer (found x s.own) (found_around x s.around)
+
+-- what a name is used for: its declaration, the target of an assignment, behind `call`, a factor
+pub data Role : Type 0 where
+  Declaring : Role
+  Assigning : Role
+  Calling : Role
+  Reading : Role
+
+abbrev pub broken_declaring : Option Kind → Option Rule
+broken_declaring None = None
+broken_declaring (Some k) = Some Doubled
+
+abbrev pub broken_assigning : Option Kind → Option Rule
+broken_assigning None = Some Undeclared
+broken_assigning (Some (AConstant v)) = Some NotAssignable
+broken_assigning (Some AVariable) = None
+broken_assigning (Some AProcedure) = Some NotAssignable
+
+-- `call` of a name that isn't declared breaks no rule
+abbrev pub broken_calling : Option Kind → Option Rule
+broken_calling None = None
+broken_calling (Some (AConstant v)) = Some NotAProcedure
+broken_calling (Some AVariable) = Some NotAProcedure
+broken_calling (Some AProcedure) = None
+
+abbrev pub broken_reading : Option Kind → Option Rule
+broken_reading None = Some Undeclared
+broken_reading (Some (AConstant v)) = None
+broken_reading (Some AVariable) = None
+broken_reading (Some AProcedure) = Some NotAValue
+
+-- the rule that this name breaks in this role where this scope is visible
+abbrev pub broken_by : Role → Scope → List ℕ → Option Rule
+broken_by Declaring s x = broken_declaring (found x s.own)
+broken_by Assigning s x = broken_assigning (visible x s)
+broken_by Calling s x = broken_calling (visible x s)
+broken_by Reading s x = broken_reading (visible x s)
+
+-- Some of the rules on names: those for which this is true.
+abbrev pub Rules : Type 0
+Rules = Rule → Bool
+
+abbrev pub no_rule : Rules
+no_rule rule = false
+
+abbrev pub every_rule : Rules
+every_rule rule = true
+
+abbrev pub same : Rule → Rule → Bool
+same Doubled Doubled = true
+same Undeclared Undeclared = true
+same NotAssignable NotAssignable = true
+same NotAProcedure NotAProcedure = true
+same NotAValue NotAValue = true
+same _ _ = false
+
+-- this rule alone
+abbrev pub only : Rule → Rules
+only rule other = same rule other
+
+-- the rule isn't one of these
+abbrev pub IsLetBe : Bool → Type 0
+IsLetBe true = ⊥
+IsLetBe false = Unit {0}
+
+-- none of these rules is broken
+abbrev pub Keeps : Rules → Option Rule → Type 0
+Keeps rules None = Unit {0}
+Keeps rules (Some rule) = IsLetBe (rules rule)
