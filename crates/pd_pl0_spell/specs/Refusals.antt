@@ -1,6 +1,6 @@
 -- What refuses a source behind its words: the first breach, and at one word the first rule in this order.
 use Rattle.std.specs.Prelude.{◌≡◌, ℕ, ◌+◌, ◌<◌, ◌≤◌, Bool, true, false, List, [], ◌∷◌, ◌++◌, length, Result, Ok, Err}
-use Rattle.pd_pl0_spell.specs.Words.{Word, Number, Open, Close, Semicolon, ConstKey, VarKey, ProcedureKey, BeginKey, EndKey, IfKey, WhileKey, Tree, name, number, parens, signed, sum, product, odd, compared, empty, assign, call, write, sequence, conditional, while, block, procedure, Trees, none, also}
+use Rattle.pd_pl0_spell.specs.Words.{Word, Number, Open, Close, Semicolon, Period, ConstKey, VarKey, ProcedureKey, BeginKey, EndKey, IfKey, WhileKey, Tree, name, number, parens, signed, sum, product, odd, compared, empty, assign, call, write, sequence, conditional, while, block, procedure, Trees, none, also}
 use Rattle.pd_pl0_spell.specs.Names.{Rule, Unexpected, LiteralTooLarge, Doubled, Undeclared, NotAssignable, NotAProcedure, NotAValue, TooDeep, TooManyNodes, Rules, no_rule, every_rule, only}
 use Rattle.pd_pl0_spell.specs.Grammar.{Program}
 
@@ -49,6 +49,7 @@ opened o ConstKey = record { openers = o.openers; declaring = true }
 opened o VarKey = record { openers = o.openers; declaring = true }
 opened o ProcedureKey = record { openers = Procedure ∷ o.openers; declaring = true }
 opened o Semicolon = record { openers = behind_semicolon o.declaring o.openers; declaring = false }
+opened o Period = record { openers = without_headings o.openers; declaring = o.declaring }
 opened o w = o
 
 abbrev pub opened_behind : Opened → List Word → Opened
