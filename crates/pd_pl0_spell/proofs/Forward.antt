@@ -23,7 +23,7 @@ append_none [] = refl
 append_none (x ∷ xs) = ap (λ ys. x ∷ ys) (append_none xs)
 
 -- Only `;`, `end` and `.` end a statement.
-pub is_ender : Word → Bool
+unfoldable pub is_ender : Word → Bool
 is_ender Semicolon = true
 is_ender EndKey = true
 is_ender Period = true
@@ -221,7 +221,7 @@ module _ (n : Rules) where
   no_procedure p o T (ProcedureKey ∷ r) g = absurd (leads_nowhere _ T r (statement_goes_on (InBlock p o) empty ProcedureKey refl) g.1)
   no_procedure p o T (w ∷ r) g = g
 
-  block_begun : (o : Around) (T : Tree) {s : Scope} {b : Tree} {ts r : List Word} → Block n s ts b r → FollowsBlock n o T b r → InConstants n s o T ts
+  pub block_begun : (o : Around) (T : Tree) {s : Scope} {b : Tree} {ts r : List Word} → Block n s ts b r → FollowsBlock n o T b r → InConstants n s o T ts
   block_begun o T (a_block c v p a) h = (_, _, _, c, (_, _, _, v, (_, _, _, p, (_, _, a, h))))
 
   procedures_go : (cs : List Constant) (vs : List (List ℕ)) (qs : Trees) (o : Around) (T : Tree) {s s' : Scope} {ps : Trees} {ts r : List Word} → Procedures n s ts ps s' r → StatementOf n (parts cs vs qs s) ps s' o T r → Goes (Assigned s) (procedures (parts cs vs qs s) o) T ts
