@@ -5,10 +5,10 @@ use Rattle.std.proofs.lemmas.Bool.{ltb-true, ltb-false}
 use Rattle.pd_pl0_spell.specs.Words.{Word, Name, Number, Tree}
 use Rattle.pd_pl0_spell.specs.Names.{Rule, Unexpected, LiteralTooLarge, Doubled, Undeclared, NotAssignable, NotAProcedure, NotAValue, TooDeep, TooManyNodes, Rules, no_rule, every_rule, same, only, Keeps}
 use Rattle.pd_pl0_spell.specs.Grammar.{Program}
-use Rattle.pd_pl0_spell.specs.Machine.{State, start, step, role_next, broken, final}
+use Rattle.pd_pl0_spell.specs.Machine.{State, start, step, role_next, broken, final, followed}
 use Rattle.pd_pl0_spell.specs.Refusals.{nesting, Begins, largest, IsTooLarge, Breaches, IsClean, rank, Precedes, nodes, at_word, at_end, too_many, Answers}
 use Rattle.pd_pl0_spell.specs.Reading.{depth, is_too_large, within_depth, within_names, within_limits, expected, within_room, at_last, going_on, read_from, read}
-use Rattle.pd_pl0_spell.proofs.Keeping.{kept, kept_by, followed, step_within, run, walk, keeps_kept}
+use Rattle.pd_pl0_spell.proofs.Keeping.{kept, kept_by, step_within, run_within, walk_within, keeps_kept}
 use Rattle.pd_pl0_spell.proofs.Forward.{complete}
 use Rattle.pd_pl0_spell.proofs.Backward.{sound}
 use Rattle.pd_pl0_spell.proofs.Opens.{walk_opens}
@@ -75,11 +75,11 @@ named_breach before w NotAValue s lost = lost
 named_breach before w _ s lost = absurd (cc)
 
 -- What the answer is at a word, where the words before it are clean and lead to a state.
-module _ (room : ℕ) (before : List Word) (s : State) (leads : walk every_rule start before ≡ Some s) (clean : IsClean before) (w : Word) (ws : List Word) where
-  steps : (n : Rules) (o : Option State) → step_within n s w ≡ o → walk n start (before ++ w ∷ []) ≡ o
-  steps n o e = walk_append n before (w ∷ []) start ∙ ap (λ x. followed x (λ s'. walk n s' (w ∷ []))) (loosened n before start s leads) ∙ last (step_within n s w) ∙ e
+module _ (room : ℕ) (before : List Word) (s : State) (leads : walk_within every_rule start before ≡ Some s) (clean : IsClean before) (w : Word) (ws : List Word) where
+  steps : (n : Rules) (o : Option State) → step_within n s w ≡ o → walk_within n start (before ++ w ∷ []) ≡ o
+  steps n o e = walk_append n before (w ∷ []) start ∙ ap (λ x. followed x (λ s'. walk_within n s' (w ∷ []))) (loosened n before start s leads) ∙ last (step_within n s w) ∙ e
     where
-      last : (x : Option State) → followed x (λ s'. walk n s' []) ≡ x
+      last : (x : Option State) → followed x (λ s'. walk_within n s' []) ≡ x
       last None = refl
       last (Some u) = refl
 
@@ -169,14 +169,14 @@ module _ (room : ℕ) (before : List Word) (s : State) (leads : walk every_rule 
           here NotAValue b = b (begins (only NotAValue) (keeps_all (only NotAValue)))
           here TooManyNodes b = b
 
-      goes_on : walk every_rule start (before ++ w ∷ []) ≡ Some s'
+      goes_on : walk_within every_rule start (before ++ w ∷ []) ≡ Some s'
       goes_on = steps every_rule (Some s') (keeps_kept every_rule (broken s w) (step s w) (keeps_all every_rule) ∙ e)
 
 -- At the end of the words.
-last_answer : (room : ℕ) (ws : List Word) (s : State) → walk every_rule start ws ≡ Some s → IsClean ws → Answers room ws (at_last room (length ws) (final s))
+last_answer : (room : ℕ) (ws : List Word) (s : State) → walk_within every_rule start ws ≡ Some s → IsClean ws → Answers room ws (at_last room (length ws) (final s))
 last_answer room ws s leads clean = go (final s) refl
   where
-    ran : (n : Rules) → run n start ws ≡ final s
+    ran : (n : Rules) → run_within n start ws ≡ final s
     ran n = run_all n ws s leads
 
     spelled : (T : Tree) → final s ≡ Some T → Program every_rule ws T
@@ -193,7 +193,7 @@ last_answer room ws s leads clean = go (final s) refl
     go None e = at_end clean (λ T h. none_is_not_some (sym e ∙ read_as T h)) refl refl
     go (Some T) e = fitting T (nat_lt room (nodes T)) refl e
 
-pub read_answers : (room : ℕ) (ws before : List Word) (s : State) → walk every_rule start before ≡ Some s → IsClean before → Answers room (before ++ ws) (read_from room (length before) s ws)
+pub read_answers : (room : ℕ) (ws before : List Word) (s : State) → walk_within every_rule start before ≡ Some s → IsClean before → Answers room (before ++ ws) (read_from room (length before) s ws)
 read_answers room [] before s leads clean = subst (λ x. Answers room x (at_last room (length before) (final s))) (sym (append_nothing before)) (last_answer room before s leads clean)
 read_answers room (w ∷ ws) before s leads clean = go (step s w) refl (λ s'. read_answers room ws (before ++ w ∷ []) s')
   where
@@ -201,7 +201,7 @@ read_answers room (w ∷ ws) before s leads clean = go (step s w) refl (λ s'. r
     Goal r = Answers room (before ++ w ∷ ws) (going_on (length before) r (λ s'. read_from room (length before + 1) s' ws))
 
     Rest : Type 0
-    Rest = (s' : State) → walk every_rule start (before ++ w ∷ []) ≡ Some s' → IsClean (before ++ w ∷ []) → Answers room ((before ++ w ∷ []) ++ ws) (read_from room (length (before ++ w ∷ [])) s' ws)
+    Rest = (s' : State) → walk_within every_rule start (before ++ w ∷ []) ≡ Some s' → IsClean (before ++ w ∷ []) → Answers room ((before ++ w ∷ []) ++ ws) (read_from room (length (before ++ w ∷ [])) s' ws)
 
     further : (s' : State) → step s w ≡ Some s' → is_too_large w ≡ false → broken s w ≡ None → (b : Bool) → nat_lt 200 (depth s') ≡ b → Rest → Goal (within_depth b s')
     further s' e t f true d rest = too_deep room before s leads clean w ws s' e t f d

@@ -1,11 +1,11 @@
 -- What the machine reads is spelled.
-use Rattle.std.proofs.Common.{◌≡◌, ℕ, Bool, true, false, List, [], ◌∷◌, ◌++◌, Option, Some, None, refl, sym, ap, ◌∙◌, subst, append_assoc}
-use Rattle.pd_pl0_spell.specs.Words.{Equal, Comparing, Adding, Multiplying, Word, Name, Number, Compares, Adds, Multiplies, Becomes, Writes, Open, Close, Comma, Semicolon, Period, ConstKey, VarKey, ProcedureKey, CallKey, BeginKey, EndKey, IfKey, ThenKey, WhileKey, DoKey, OddKey, Constant, Tree, parens, odd, compared, empty, assign, call, write, sequence, block, procedure, Trees, none, also, joined, with_last}
-use Rattle.pd_pl0_spell.specs.Names.{Rule, AConstant, AVariable, AProcedure, Scope, declare, entered, Role, Declaring, Assigning, Calling, Reading, broken_by, Rules, IsLetBe, Keeps}
-use Rattle.pd_pl0_spell.specs.Grammar.{Expression, without_sign, with_sign, no_sum, adding, Term, of_factors, no_product, multiplying, a_name, a_number, in_parens, Condition, is_odd, comparison, Statement, an_empty, an_assignment, a_call, a_write, a_sequence, an_if, a_while, no_more_statements, next_statement, MoreConstants, no_more_constants, next_constant, no_constant, first_constant, MoreVariables, no_more_variables, next_variable, no_variable, first_variable, Block, a_block, no_more_procedures, next_procedure}
-use Rattle.pd_pl0_spell.specs.Machine.{Left, Sign, Waiting, nothing, term_of, whole, Parts, block_of, with_procedure, with_name, parts_behind, Around, Main, Within, Keyword, ForIf, ForWhile, headed, Holder, InBlock, InSequence, InBody, holder_scope, Stack, AsAssigned, AsWritten, AsOdd, AsLeft, AsRight, InParens, stack_scope, State, BlockStart, BeforeConstant, BeforeEqual, BeforeNumber, AfterConstant, AfterConstants, BeforeVariable, AfterVariable, AfterVariables, BeforeProcedure, AfterProcedure, BeforeStatement, BeforeBecomes, BeforeCallee, AfterStatement, BeforeCondition, BeforeExpression, Wants, Has, Finished, block_ends, statement_ends, condition_ends, ends, after_operand, operand, expression, statement, procedures, variables, constants, step, role_next, broken_in, broken, final}
-use Rattle.pd_pl0_spell.proofs.Completes.{Cont, Comes, comes, ComesWith, comes_with, AtEnd, at_the_end, AfterTerm, AfterFactor, BeforeOperand, ExpressionThen, FollowsBlock, StatementOf, InProcedures, InVariables, InConstants, MoreConstantsThen, MoreVariablesThen, FollowsStatement, StatementThen, FollowsCondition, Follows, Completes}
-use Rattle.pd_pl0_spell.proofs.Keeping.{kept, kept_by, followed, run, step_within}
+use Rattle.std.proofs.Common.{◌≡◌, ℕ, Bool, true, false, List, [], ◌∷◌, ◌++◌, Option, Some, None, sym, subst, append_assoc}
+use Rattle.pd_pl0_spell.specs.Words.{Equal, Adding, Multiplying, Word, Name, Number, Compares, Adds, Multiplies, Becomes, Writes, Open, Close, Comma, Semicolon, Period, ConstKey, VarKey, ProcedureKey, CallKey, BeginKey, EndKey, IfKey, ThenKey, WhileKey, DoKey, OddKey, Constant, Tree, parens, odd, compared, empty, assign, write, sequence, block, procedure, none, also}
+use Rattle.pd_pl0_spell.specs.Names.{Rule, AVariable, AProcedure, Scope, declare, entered, Declaring, Assigning, broken_by, Rules, IsLetBe, Keeps}
+use Rattle.pd_pl0_spell.specs.Grammar.{Expression, without_sign, with_sign, no_sum, adding, Term, of_factors, no_product, multiplying, a_name, a_number, in_parens, Condition, is_odd, comparison, an_empty, an_assignment, a_call, a_write, a_sequence, an_if, a_while, no_more_statements, next_statement, MoreConstants, no_more_constants, next_constant, no_constant, first_constant, MoreVariables, no_more_variables, next_variable, no_variable, first_variable, Block, a_block, no_more_procedures, next_procedure}
+use Rattle.pd_pl0_spell.specs.Machine.{Left, Sign, Waiting, nothing, term_of, whole, Parts, block_of, with_name, parts_behind, Around, Main, Within, Keyword, ForIf, ForWhile, headed, Holder, InBlock, InSequence, InBody, holder_scope, Stack, AsAssigned, AsWritten, AsOdd, AsLeft, AsRight, InParens, stack_scope, State, BlockStart, BeforeConstant, BeforeEqual, BeforeNumber, AfterConstant, AfterConstants, BeforeVariable, AfterVariable, AfterVariables, BeforeProcedure, AfterProcedure, BeforeStatement, BeforeBecomes, BeforeCallee, AfterStatement, BeforeCondition, BeforeExpression, Wants, Has, Finished, block_ends, statement_ends, condition_ends, ends, after_operand, operand, expression, statement, procedures, variables, constants, step, broken_in, broken, final, followed}
+use Rattle.pd_pl0_spell.proofs.Completes.{Cont, Comes, comes, comes_with, at_the_end, AfterTerm, AfterFactor, BeforeOperand, ExpressionThen, FollowsBlock, InProcedures, InVariables, InConstants, MoreConstantsThen, MoreVariablesThen, FollowsStatement, StatementThen, FollowsCondition, Follows, Completes}
+use Rattle.pd_pl0_spell.proofs.Keeping.{kept, kept_by, run_within}
 use Rattle.pd_pl0_spell.proofs.Forward.{joined_one, joined_none, append_none, Read, Assigned}
 
 none_is_not_some : {A : Type 0} {a : A} → None ≡ Some a → ⊥
@@ -198,21 +198,21 @@ module _ (n : Rules) where
   final_back _ T h = absurd (none_is_not_some h)
 
   -- What is read is spelled.
-  pub sound : (ts : List Word) (s : State) (T : Tree) → run n s ts ≡ Some T → Completes n s T ts
+  pub sound : (ts : List Word) (s : State) (T : Tree) → run_within n s ts ≡ Some T → Completes n s T ts
   sound [] s T h = final_back s T h
   sound (w ∷ ts) s T h = go (broken s w) (step s w) (λ s'. sound ts s' T) (backward s T w ts) h
     where
       Later : Type 0
-      Later = (s' : State) → run n s' ts ≡ Some T → Completes n s' T ts
+      Later = (s' : State) → run_within n s' ts ≡ Some T → Completes n s' T ts
 
-      on : (o : Option State) → Later → Back o T ts (Completes n s T (w ∷ ts)) → followed o (λ s'. run n s' ts) ≡ Some T → Completes n s T (w ∷ ts)
+      on : (o : Option State) → Later → Back o T ts (Completes n s T (w ∷ ts)) → followed o (λ s'. run_within n s' ts) ≡ Some T → Completes n s T (w ∷ ts)
       on None ih b h = absurd (none_is_not_some h)
       on (Some s') ih b h = b (ih s' h)
 
-      as_kept : (l : Bool) (o : Option State) → Later → (IsLetBe l → Back o T ts (Completes n s T (w ∷ ts))) → followed (kept l o) (λ s'. run n s' ts) ≡ Some T → Completes n s T (w ∷ ts)
+      as_kept : (l : Bool) (o : Option State) → Later → (IsLetBe l → Back o T ts (Completes n s T (w ∷ ts))) → followed (kept l o) (λ s'. run_within n s' ts) ≡ Some T → Completes n s T (w ∷ ts)
       as_kept true o ih b h = absurd (none_is_not_some h)
       as_kept false o ih b h = on o ih (b tt) h
 
-      go : (x : Option Rule) (o : Option State) → Later → (Keeps n x → Back o T ts (Completes n s T (w ∷ ts))) → followed (kept_by n x o) (λ s'. run n s' ts) ≡ Some T → Completes n s T (w ∷ ts)
+      go : (x : Option Rule) (o : Option State) → Later → (Keeps n x → Back o T ts (Completes n s T (w ∷ ts))) → followed (kept_by n x o) (λ s'. run_within n s' ts) ≡ Some T → Completes n s T (w ∷ ts)
       go None o ih b h = on o ih (b tt) h
       go (Some rule) o ih b h = as_kept (n rule) o ih b h

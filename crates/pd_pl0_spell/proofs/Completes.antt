@@ -1,7 +1,7 @@
 -- What the words that are left must be, at each state, for a program to be spelled.
-use Rattle.std.proofs.Common.{◌≡◌, ℕ, List, [], ◌∷◌, ◌++◌, Option, Some, None}
-use Rattle.pd_pl0_spell.specs.Words.{Equal, Comparing, Word, Name, Number, Compares, Becomes, Close, Comma, Semicolon, Period, ThenKey, DoKey, Constant, Tree, parens, odd, compared, assign, call, write, sequence, block, Trees, also, joined}
-use Rattle.pd_pl0_spell.specs.Names.{AConstant, AVariable, Scope, declare, entered, Declaring, Calling, broken_by, Rules, Keeps}
+use Rattle.std.proofs.Common.{◌≡◌, ℕ, List, [], ◌∷◌, ◌++◌}
+use Rattle.pd_pl0_spell.specs.Words.{Equal, Word, Name, Number, Compares, Becomes, Close, Comma, Semicolon, Period, ThenKey, DoKey, Constant, Tree, parens, odd, compared, assign, call, write, sequence, block, Trees, also, joined}
+use Rattle.pd_pl0_spell.specs.Names.{AConstant, Scope, declare, entered, Declaring, Calling, broken_by, Rules, Keeps}
 use Rattle.pd_pl0_spell.specs.Grammar.{Expression, MoreTerms, Factor, MoreFactors, Condition, Statement, MoreStatements, MoreConstants, Constants, MoreVariables, Variables, Procedures}
 use Rattle.pd_pl0_spell.specs.Machine.{Waiting, sum_of, product_of, Parts, block_of, with_procedure, with_name, parts_behind, Around, Main, Within, Keyword, ForIf, ForWhile, headed, Holder, InBlock, InSequence, InBody, holder_scope, Stack, AsAssigned, AsWritten, AsOdd, AsLeft, AsRight, InParens, stack_scope, State, BlockStart, BeforeConstant, BeforeEqual, BeforeNumber, AfterConstant, AfterConstants, BeforeVariable, AfterVariable, AfterVariables, BeforeProcedure, AfterProcedure, BeforeStatement, BeforeBecomes, BeforeCallee, AfterStatement, BeforeCondition, BeforeExpression, Wants, Has, Finished}
 

@@ -1,11 +1,11 @@
 -- Wherever the machine is, some words complete a program in which the rules on names are kept.
-use Rattle.std.proofs.Common.{◌≡◌, ℕ, ◌+◌, ◌<◌, Bool, true, false, if◌then◌else◌, List, [], ◌∷◌, ◌++◌, length, replicate, Decides, Option, Some, None, refl, ap, sym, ◌∙◌, arith, bytes_eq}
+use Rattle.std.proofs.Common.{◌≡◌, ℕ, ◌+◌, ◌<◌, Bool, true, false, if◌then◌else◌, List, [], ◌∷◌, ◌++◌, length, replicate, Decides, Option, Some, None, refl, ap, ◌∙◌, arith, bytes_eq}
 use Rattle.std.proofs.lemmas.Slice.Eq.{bytes_eq-Decides}
 use Rattle.std.proofs.lemmas.List.{length-replicate}
-use Rattle.pd_pl0_spell.specs.Words.{Equal, Word, Name, Number, Compares, Becomes, Close, Semicolon, Period, EndKey, ThenKey, DoKey, OddKey, Constant, Tree, name, number, parens, odd, compared, empty, assign, call, write, sequence, block, none, with_last}
-use Rattle.pd_pl0_spell.specs.Names.{Rule, Kind, Declaration, Scope, AConstant, AVariable, declare, entered, found, or_outer, found_around, visible, Declaring, Calling, broken_declaring, broken_calling, broken_by, Rules}
-use Rattle.pd_pl0_spell.specs.Machine.{Waiting, nothing, whole, Parts, block_of, with_procedure, with_name, parts_behind, Around, Main, Within, Keyword, ForIf, ForWhile, headed, Holder, InBlock, InSequence, InBody, holder_scope, Stack, AsAssigned, AsWritten, AsOdd, AsLeft, AsRight, InParens, State, BlockStart, BeforeConstant, BeforeEqual, BeforeNumber, AfterConstant, AfterConstants, BeforeVariable, AfterVariable, AfterVariables, BeforeProcedure, AfterProcedure, BeforeStatement, BeforeBecomes, BeforeCallee, AfterStatement, BeforeCondition, BeforeExpression, Wants, Has, Finished, block_ends, statement_ends, condition_ends, ends}
-use Rattle.pd_pl0_spell.proofs.Keeping.{kept_by, step_within, followed, run}
+use Rattle.pd_pl0_spell.specs.Words.{Equal, Word, Name, Number, Compares, Becomes, Close, Semicolon, Period, EndKey, ThenKey, DoKey, OddKey, Constant, Tree, number, parens, odd, compared, empty, assign, call, write, sequence, block, none, with_last}
+use Rattle.pd_pl0_spell.specs.Names.{Declaration, Scope, AConstant, AVariable, declare, entered, found, or_outer, found_around, Declaring, Calling, broken_declaring, broken_calling, broken_by, Rules}
+use Rattle.pd_pl0_spell.specs.Machine.{Waiting, nothing, whole, Parts, block_of, with_procedure, with_name, parts_behind, Around, Main, Within, Keyword, ForIf, ForWhile, headed, Holder, InBlock, InSequence, InBody, holder_scope, Stack, AsAssigned, AsWritten, AsOdd, AsLeft, AsRight, InParens, State, BlockStart, BeforeConstant, BeforeEqual, BeforeNumber, AfterConstant, AfterConstants, BeforeVariable, AfterVariable, AfterVariables, BeforeProcedure, AfterProcedure, BeforeStatement, BeforeBecomes, BeforeCallee, AfterStatement, BeforeCondition, BeforeExpression, Wants, Has, Finished, block_ends, statement_ends, condition_ends, ends, followed}
+use Rattle.pd_pl0_spell.proofs.Keeping.{kept_by, step_within, run_within}
 
 -- A name that is longer than all that are declared is declared nowhere.
 total : List Declaration → ℕ
@@ -139,14 +139,14 @@ completion (Finished b) = []
 
 module _ (n : Rules) where
   abbrev pub Accepts : State → List Word → Type 0
-  Accepts s ts = (T : Tree) × (run n s ts ≡ Some T)
+  Accepts s ts = (T : Tree) × (run_within n s ts ≡ Some T)
 
   -- a word that leads to a state from which the rest completes a program
   abbrev pub Ended : Option State → List Word → Type 0
   Ended o ts = (s : State) × (o ≡ Some s) × Accepts s ts
 
   ended_by : (s : State) (w : Word) (ts : List Word) → Ended (step_within n s w) ts → Accepts s (w ∷ ts)
-  ended_by s w ts (s', e, (T, h)) = (T, ap (λ o. followed o (λ u. run n u ts)) e ∙ h)
+  ended_by s w ts (s', e, (T, h)) = (T, ap (λ o. followed o (λ u. run_within n u ts)) e ∙ h)
 
   passed : (o o' : Option State) (ts : List Word) → o ≡ o' → Ended o' ts → Ended o ts
   passed o o' ts e (s, g, h) = (s, e ∙ g, h)

@@ -1,11 +1,11 @@
 -- The machine follows what is spelled.
 use Rattle.std.proofs.Common.{◌≡◌, ℕ, List, [], ◌∷◌, ◌++◌, Option, Some, None, ◌⊎◌, inl, inr, Bool, true, false, refl, sym, ap, ◌∙◌, subst, append_assoc}
-use Rattle.pd_pl0_spell.specs.Words.{Equal, Comparing, Word, Name, Number, Compares, Adds, Multiplies, Becomes, Writes, Open, Close, Comma, Semicolon, Period, ConstKey, VarKey, ProcedureKey, CallKey, BeginKey, EndKey, IfKey, ThenKey, WhileKey, DoKey, OddKey, Constant, Tree, parens, odd, compared, empty, assign, call, write, sequence, block, procedure, Trees, none, also, joined, with_last}
-use Rattle.pd_pl0_spell.specs.Names.{AConstant, AProcedure, Scope, declare, entered, Role, Declaring, Assigning, Calling, Reading, Rules, Keeps}
+use Rattle.pd_pl0_spell.specs.Words.{Comparing, Word, Name, Adds, Multiplies, Writes, Comma, Semicolon, Period, ConstKey, VarKey, ProcedureKey, CallKey, BeginKey, EndKey, IfKey, WhileKey, OddKey, Constant, Tree, odd, compared, empty, assign, write, sequence, block, procedure, Trees, none, also, joined, with_last}
+use Rattle.pd_pl0_spell.specs.Names.{Scope, Role, Declaring, Assigning, Calling, Reading, Rules, Keeps}
 use Rattle.pd_pl0_spell.specs.Grammar.{Expression, without_sign, with_sign, MoreTerms, no_sum, adding, Term, of_factors, MoreFactors, no_product, multiplying, Factor, a_name, a_number, in_parens, Condition, is_odd, comparison, Statement, an_empty, an_assignment, a_call, a_write, a_sequence, an_if, a_while, MoreStatements, no_more_statements, next_statement, MoreConstants, no_more_constants, next_constant, Constants, no_constant, first_constant, MoreVariables, no_more_variables, next_variable, Variables, no_variable, first_variable, Block, a_block, Procedures, no_more_procedures, next_procedure}
-use Rattle.pd_pl0_spell.specs.Machine.{Left, Sign, Waiting, nothing, term_of, whole, Parts, block_of, with_procedure, with_name, parts_behind, Around, Main, Within, Keyword, ForIf, ForWhile, headed, Holder, InBlock, InSequence, InBody, holder_scope, Stack, AsAssigned, AsWritten, AsOdd, AsLeft, AsRight, InParens, stack_scope, State, BlockStart, BeforeConstant, BeforeEqual, BeforeNumber, AfterConstant, AfterConstants, BeforeVariable, AfterVariable, AfterVariables, BeforeProcedure, AfterProcedure, BeforeStatement, BeforeBecomes, BeforeCallee, AfterStatement, BeforeCondition, BeforeExpression, Wants, Has, Finished, block_ends, statement_ends, condition_ends, ends, after_operand, operand, expression, statement, procedures, variables, constants, step, role_next, broken_in, broken, final}
-use Rattle.pd_pl0_spell.proofs.Completes.{Cont, Comes, comes, ComesWith, comes_with, AtEnd, at_the_end, AfterTerm, AfterFactor, BeforeOperand, ExpressionThen, FollowsBlock, StatementOf, InProcedures, InVariables, InConstants, MoreConstantsThen, MoreVariablesThen, FollowsStatement, StatementThen, FollowsCondition, Follows, Completes}
-use Rattle.pd_pl0_spell.proofs.Keeping.{followed, run, step_within, keeps_kept}
+use Rattle.pd_pl0_spell.specs.Machine.{Left, Sign, Waiting, nothing, term_of, whole, Parts, block_of, with_name, parts_behind, Around, Main, Within, Keyword, ForIf, ForWhile, headed, Holder, InBlock, InSequence, InBody, holder_scope, Stack, AsAssigned, AsWritten, AsOdd, AsLeft, AsRight, InParens, stack_scope, State, BlockStart, BeforeConstant, BeforeEqual, BeforeNumber, AfterConstant, AfterConstants, BeforeVariable, AfterVariable, AfterVariables, BeforeProcedure, AfterProcedure, BeforeStatement, BeforeBecomes, BeforeCallee, AfterStatement, BeforeCondition, BeforeExpression, Wants, Has, Finished, block_ends, statement_ends, condition_ends, after_operand, operand, expression, statement, procedures, variables, constants, step, role_next, broken_in, broken, final, followed}
+use Rattle.pd_pl0_spell.proofs.Completes.{Cont, comes, ComesWith, comes_with, AtEnd, at_the_end, AfterTerm, AfterFactor, BeforeOperand, FollowsBlock, StatementOf, InProcedures, InVariables, InConstants, FollowsStatement, FollowsCondition, Follows, Completes}
+use Rattle.pd_pl0_spell.proofs.Keeping.{run_within, keeps_kept}
 
 none_is_not_some : {A : Type 0} {a : A} → None ≡ Some a → ⊥
 none_is_not_some h = cc
@@ -313,8 +313,8 @@ module _ (n : Rules) where
   forward (Finished b) T ts h = finished_ends b T h
 
   -- What is spelled is read, as this one tree.
-  pub complete : (ts : List Word) (s : State) (T : Tree) → Completes n s T ts → run n s ts ≡ Some T
+  pub complete : (ts : List Word) (s : State) (T : Tree) → Completes n s T ts → run_within n s ts ≡ Some T
   complete [] s T h = forward s T [] h
   complete (w ∷ ts) s T h =
       let g : Ends s T (w ∷ ts) = forward s T (w ∷ ts) h in
-      ap (λ o. followed o (λ s'. run n s' ts)) (keeps_kept n (broken s w) (step s w) g.0 ∙ g.1.1) ∙ complete ts g.1.0 T g.1.2
+      ap (λ o. followed o (λ s'. run_within n s' ts)) (keeps_kept n (broken s w) (step s w) g.0 ∙ g.1.1) ∙ complete ts g.1.0 T g.1.2

@@ -1,8 +1,8 @@
 -- The machine that keeps some of the rules on names.
-use Rattle.std.proofs.Common.{◌≡◌, ℕ, Bool, true, false, List, [], ◌∷◌, Option, Some, None, refl}
+use Rattle.std.proofs.Common.{◌≡◌, Bool, true, false, List, [], ◌∷◌, Option, Some, None, refl}
 use Rattle.pd_pl0_spell.specs.Words.{Word, Tree}
 use Rattle.pd_pl0_spell.specs.Names.{Rule, Rules, IsLetBe, Keeps}
-use Rattle.pd_pl0_spell.specs.Machine.{State, step, broken, final}
+use Rattle.pd_pl0_spell.specs.Machine.{State, step, broken, final, followed}
 
 abbrev pub kept : Bool → Option State → Option State
 kept true o = None
@@ -15,18 +15,14 @@ kept_by n (Some rule) o = kept (n rule) o
 abbrev pub step_within : Rules → State → Word → Option State
 step_within n s w = kept_by n (broken s w) (step s w)
 
-abbrev pub followed : {A B : Type 0} → Option A → (A → Option B) → Option B
-followed None f = None
-followed (Some a) f = f a
-
-abbrev pub run : Rules → State → List Word → Option Tree
-run n s [] = final s
-run n s (w ∷ ws) = followed (step_within n s w) (λ s'. run n s' ws)
+abbrev pub run_within : Rules → State → List Word → Option Tree
+run_within n s [] = final s
+run_within n s (w ∷ ws) = followed (step_within n s w) (λ s'. run_within n s' ws)
 
 -- where the words lead
-abbrev pub walk : Rules → State → List Word → Option State
-walk n s [] = Some s
-walk n s (w ∷ ws) = followed (step_within n s w) (λ s'. walk n s' ws)
+abbrev pub walk_within : Rules → State → List Word → Option State
+walk_within n s [] = Some s
+walk_within n s (w ∷ ws) = followed (step_within n s w) (λ s'. walk_within n s' ws)
 
 pub keeps_kept : (n : Rules) (b : Option Rule) (o : Option State) → Keeps n b → kept_by n b o ≡ o
 keeps_kept n None o h = refl

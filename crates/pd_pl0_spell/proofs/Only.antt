@@ -1,13 +1,13 @@
 -- The answer is the only one: what is spelled within the rules is accepted, and a first breach is refused as that.
-use Rattle.std.proofs.Common.{◌≡◌, ℕ, zero, suc, ◌<◌, ◌≤◌, Bool, true, false, List, [], ◌∷◌, ◌++◌, length, Some, Result, Ok, Err, ◌⊎◌, inl, inr, refl, sym, ap, ◌∙◌, subst, arith}
+use Rattle.std.proofs.Common.{◌≡◌, ℕ, zero, suc, ◌<◌, ◌≤◌, Bool, true, false, List, [], ◌∷◌, ◌++◌, length, Result, Ok, Err, ◌⊎◌, inl, inr, refl, sym, ap, ◌∙◌, subst, arith, append_assoc}
 use Rattle.std.specs.Prelude.{nat_lt}
 use Rattle.std.proofs.lemmas.Bool.{ltb-true, ltb-false}
 use Rattle.pd_pl0_spell.specs.Words.{Word, Tree}
-use Rattle.pd_pl0_spell.specs.Names.{Rule, Unexpected, LiteralTooLarge, Doubled, Undeclared, NotAssignable, NotAProcedure, NotAValue, TooDeep, TooManyNodes, no_rule, every_rule}
+use Rattle.pd_pl0_spell.specs.Names.{Rule, Unexpected, LiteralTooLarge, Doubled, Undeclared, NotAssignable, NotAProcedure, NotAValue, TooDeep, TooManyNodes, Rules, no_rule, every_rule, only}
 use Rattle.pd_pl0_spell.specs.Grammar.{Program}
-use Rattle.pd_pl0_spell.specs.Refusals.{Breaches, IsClean, rank, Precedes, FirstBreach, nodes, Refuses, at_word, at_end, too_many, Answers}
+use Rattle.pd_pl0_spell.specs.Refusals.{nesting, Begins, IsWithinLimits, Breaches, IsClean, rank, Precedes, FirstBreach, nodes, Refuses, at_word, at_end, too_many, Answers}
 use Rattle.pd_pl0_spell.specs.Reading.{read}
-use Rattle.pd_pl0_spell.proofs.Walks.{only_one_tree}
+use Rattle.pd_pl0_spell.proofs.Walks.{loosened_program, only_one_tree}
 use Rattle.pd_pl0_spell.proofs.Answer.{read_answers_all}
 
 pub accepted : (room : ℕ) (ws : List Word) (T : Tree) → Program no_rule ws T → IsClean ws → nodes T ≤ room → read room ws ≡ Ok T
@@ -21,6 +21,30 @@ accepted room ws T p c fits = go (read room ws) refl (read_answers_all room ws)
     go : (r : Result Tree (Rule × ℕ)) → read room ws ≡ r → Answers room ws r → read room ws ≡ Ok T
     go (Ok U) e h = e ∙ ap (λ x. Ok x) (sym (h.only_one T p))
     go (Err x) e h = absurd (refusal x.0 x.1 h)
+
+-- What is spelled with all names as the declarations in scope allow breaks no rule but one of the limits.
+keeping_clean : (ws : List Word) (T : Tree) → Program every_rule ws T → IsWithinLimits ws → IsClean ws
+keeping_clean ws T p limits before after w e = here
+  where
+    begins : (n : Rules) → Begins n (before ++ w ∷ [])
+    begins n = (after, T, subst (λ x. Program n x T) (e ∙ sym (append_assoc before (w ∷ []) after)) (loosened_program n ws T p))
+
+    shallow : 200 < nesting (before ++ w ∷ []) → ⊥
+    shallow b = omega (arith, (limits before after w e).1, b)
+
+    here : (rule : Rule) → Breaches before w rule → ⊥
+    here Unexpected b = b (begins no_rule)
+    here LiteralTooLarge b = (limits before after w e).0 b
+    here Doubled b = b (begins (only Doubled))
+    here Undeclared b = b (begins (only Undeclared))
+    here NotAssignable b = b (begins (only NotAssignable))
+    here NotAProcedure b = b (begins (only NotAProcedure))
+    here NotAValue b = b (begins (only NotAValue))
+    here TooDeep b = shallow b
+    here TooManyNodes b = b
+
+pub spelled : (room : ℕ) (ws : List Word) (T : Tree) → Program every_rule ws T → IsWithinLimits ws → nodes T ≤ room → read room ws ≡ Ok T
+spelled room ws T p limits fits = accepted room ws T (loosened_program no_rule ws T p) (keeping_clean ws T p limits) fits
 
 cons_same : {a b : Word} {xs ys : List Word} → a ≡ b → xs ≡ ys → a ∷ xs ≡ b ∷ ys
 cons_same p q = cc

@@ -1,11 +1,11 @@
 -- What is open behind a word is what the state has open.
-use Rattle.std.proofs.Common.{◌≡◌, ℕ, Bool, true, false, List, [], ◌∷◌, Option, Some, None, refl, sym, ap, ◌∙◌, subst}
+use Rattle.std.proofs.Common.{◌≡◌, Bool, true, false, List, [], ◌∷◌, Option, Some, None, refl, sym, ap, ◌∙◌, subst}
 use Rattle.pd_pl0_spell.specs.Words.{Equal, Word, Name, Number, Compares, Adds, Multiplies, Becomes, Writes, Open, Close, Comma, Semicolon, Period, ConstKey, VarKey, ProcedureKey, CallKey, BeginKey, EndKey, IfKey, ThenKey, WhileKey, DoKey, OddKey, Constant, Tree, odd, compared, empty, assign, write}
 use Rattle.pd_pl0_spell.specs.Names.{Rule, Scope, Rules}
-use Rattle.pd_pl0_spell.specs.Machine.{Waiting, nothing, whole, Parts, block_of, parts_behind, Around, Main, Within, Keyword, ForIf, ForWhile, headed, Holder, InBlock, InSequence, InBody, Stack, AsAssigned, AsWritten, AsOdd, AsLeft, AsRight, InParens, State, BlockStart, BeforeConstant, BeforeEqual, BeforeNumber, AfterConstant, AfterConstants, BeforeVariable, AfterVariable, AfterVariables, BeforeProcedure, AfterProcedure, BeforeStatement, BeforeBecomes, BeforeCallee, AfterStatement, BeforeCondition, BeforeExpression, Wants, Has, Finished, block_ends, statement_ends, condition_ends, ends, after_operand, operand, expression, statement, procedures, variables, constants, step, broken}
+use Rattle.pd_pl0_spell.specs.Machine.{Waiting, nothing, whole, Parts, block_of, parts_behind, Around, Main, Within, Keyword, ForIf, ForWhile, headed, Holder, InBlock, InSequence, InBody, Stack, AsAssigned, AsWritten, AsOdd, AsLeft, AsRight, InParens, State, BlockStart, BeforeConstant, BeforeEqual, BeforeNumber, AfterConstant, AfterConstants, BeforeVariable, AfterVariable, AfterVariables, BeforeProcedure, AfterProcedure, BeforeStatement, BeforeBecomes, BeforeCallee, AfterStatement, BeforeCondition, BeforeExpression, Wants, Has, block_ends, statement_ends, condition_ends, ends, after_operand, operand, expression, statement, procedures, variables, constants, step, broken, followed}
 use Rattle.pd_pl0_spell.specs.Refusals.{Opener, Heading, Opened, opened, opened_behind}
 use Rattle.pd_pl0_spell.specs.Reading.{around_openers, holder_openers, stack_openers, reads, open_at}
-use Rattle.pd_pl0_spell.proofs.Keeping.{kept, kept_by, followed, step_within, walk}
+use Rattle.pd_pl0_spell.proofs.Keeping.{kept, kept_by, step_within, walk_within}
 use Rattle.pd_pl0_spell.proofs.Forward.{is_ender, statement_goes_on}
 
 none_is_not_some : {A : Type 0} {a : A} → None ≡ Some a → ⊥
@@ -128,10 +128,10 @@ kept_opens n (Some rule) os w o h = go (n rule)
     go true = tt
     go false = h
 
-pub walk_opens : (n : Rules) (ts : List Word) (s s' : State) → walk n s ts ≡ Some s' → opened_behind (open_at s) ts ≡ open_at s'
+pub walk_opens : (n : Rules) (ts : List Word) (s s' : State) → walk_within n s ts ≡ Some s' → opened_behind (open_at s) ts ≡ open_at s'
 walk_opens n [] s s' h = ap open_at (some_same h)
 walk_opens n (w ∷ ts) s s' h = go (step_within n s w) (kept_opens n (broken s w) (open_at s) w (step s w) (step_opens s w)) (λ u. walk_opens n ts u s') h
   where
-    go : (o : Option State) → Opens (open_at s) w o → ((u : State) → walk n u ts ≡ Some s' → opened_behind (open_at u) ts ≡ open_at s') → followed o (λ u. walk n u ts) ≡ Some s' → opened_behind (opened (open_at s) w) ts ≡ open_at s'
+    go : (o : Option State) → Opens (open_at s) w o → ((u : State) → walk_within n u ts ≡ Some s' → opened_behind (open_at u) ts ≡ open_at s') → followed o (λ u. walk_within n u ts) ≡ Some s' → opened_behind (opened (open_at s) w) ts ≡ open_at s'
     go None a ih h = absurd (none_is_not_some h)
     go (Some u) a ih h = ap (λ os. opened_behind os ts) a ∙ ih u h

@@ -1,12 +1,12 @@
 -- Where words lead, and what they begin, at each choice of the rules on names.
 use Rattle.std.proofs.Common.{◌≡◌, ℕ, ◌<◌, ◌≤◌, Bool, true, false, List, [], ◌∷◌, ◌++◌, Option, Some, None, refl, sym, ap, ◌∙◌, subst, arith}
-use Rattle.pd_pl0_spell.specs.Words.{Word, Name, Period, Tree, block, none}
-use Rattle.pd_pl0_spell.specs.Names.{Rule, Unexpected, LiteralTooLarge, Doubled, Undeclared, NotAssignable, NotAProcedure, NotAValue, TooDeep, TooManyNodes, Kind, AConstant, AVariable, AProcedure, Scope, no_declarations, found, visible, Role, Declaring, Assigning, Calling, Reading, broken_declaring, broken_assigning, broken_calling, broken_reading, broken_by, Rules, no_rule, every_rule, same, IsLetBe, Keeps}
+use Rattle.pd_pl0_spell.specs.Words.{Word, Name, Tree}
+use Rattle.pd_pl0_spell.specs.Names.{Rule, Doubled, Undeclared, NotAssignable, NotAProcedure, NotAValue, Kind, AConstant, AVariable, AProcedure, Scope, found, visible, Role, Declaring, Assigning, Calling, Reading, broken_declaring, broken_assigning, broken_calling, broken_reading, broken_by, Rules, no_rule, every_rule, same, IsLetBe}
 use Rattle.pd_pl0_spell.specs.Grammar.{a_block, Program, a_program}
-use Rattle.pd_pl0_spell.specs.Machine.{Main, State, start, step, broken_in, broken, final}
+use Rattle.pd_pl0_spell.specs.Machine.{Main, State, start, step, broken_in, broken, final, run, followed}
 use Rattle.pd_pl0_spell.specs.Refusals.{Begins, rank}
-use Rattle.pd_pl0_spell.proofs.Completes.{comes, AtEnd, at_the_end, InConstants, Completes}
-use Rattle.pd_pl0_spell.proofs.Keeping.{kept_by, followed, step_within, run, walk}
+use Rattle.pd_pl0_spell.proofs.Completes.{comes, at_the_end, Completes}
+use Rattle.pd_pl0_spell.proofs.Keeping.{kept_by, step_within, run_within, walk_within}
 use Rattle.pd_pl0_spell.proofs.Forward.{block_begun, complete}
 use Rattle.pd_pl0_spell.proofs.Backward.{sound}
 use Rattle.pd_pl0_spell.proofs.Completion.{completion, completed}
@@ -25,68 +25,84 @@ module _ (n : Rules) where
   pub completes_of : {ts : List Word} {T : Tree} → Program n ts T → Completes n start T ts
   completes_of (a_program d) = block_begun n Main _ d (comes (at_the_end refl))
 
-  pub run_append : (ts us : List Word) (s : State) → run n s (ts ++ us) ≡ followed (walk n s ts) (λ s'. run n s' us)
+  pub run_append : (ts us : List Word) (s : State) → run_within n s (ts ++ us) ≡ followed (walk_within n s ts) (λ s'. run_within n s' us)
   run_append [] us s = refl
   run_append (w ∷ ts) us s = go (step_within n s w) (λ s'. run_append ts us s')
     where
-      go : (o : Option State) → ((s' : State) → run n s' (ts ++ us) ≡ followed (walk n s' ts) (λ s''. run n s'' us)) → followed o (λ s'. run n s' (ts ++ us)) ≡ followed (followed o (λ s'. walk n s' ts)) (λ s'. run n s' us)
+      go : (o : Option State) → ((s' : State) → run_within n s' (ts ++ us) ≡ followed (walk_within n s' ts) (λ s''. run_within n s'' us)) → followed o (λ s'. run_within n s' (ts ++ us)) ≡ followed (followed o (λ s'. walk_within n s' ts)) (λ s'. run_within n s' us)
       go None ih = refl
       go (Some s') ih = ih s'
 
-  pub walk_append : (ts us : List Word) (s : State) → walk n s (ts ++ us) ≡ followed (walk n s ts) (λ s'. walk n s' us)
+  pub walk_append : (ts us : List Word) (s : State) → walk_within n s (ts ++ us) ≡ followed (walk_within n s ts) (λ s'. walk_within n s' us)
   walk_append [] us s = refl
   walk_append (w ∷ ts) us s = go (step_within n s w) (λ s'. walk_append ts us s')
     where
-      go : (o : Option State) → ((s' : State) → walk n s' (ts ++ us) ≡ followed (walk n s' ts) (λ s''. walk n s'' us)) → followed o (λ s'. walk n s' (ts ++ us)) ≡ followed (followed o (λ s'. walk n s' ts)) (λ s'. walk n s' us)
+      go : (o : Option State) → ((s' : State) → walk_within n s' (ts ++ us) ≡ followed (walk_within n s' ts) (λ s''. walk_within n s'' us)) → followed o (λ s'. walk_within n s' (ts ++ us)) ≡ followed (followed o (λ s'. walk_within n s' ts)) (λ s'. walk_within n s' us)
       go None ih = refl
       go (Some s') ih = ih s'
 
-  pub walked_begins : (ts : List Word) (s : State) → walk n start ts ≡ Some s → Begins n ts
+  pub walked_begins : (ts : List Word) (s : State) → walk_within n start ts ≡ Some s → Begins n ts
   walked_begins ts s h =
       let c = completed n s in
-      (completion s, c.0, program_of (ts ++ completion s) c.0 (sound n (ts ++ completion s) start c.0 (run_append ts (completion s) start ∙ ap (λ o. followed o (λ s'. run n s' (completion s))) h ∙ c.1)))
+      (completion s, c.0, program_of (ts ++ completion s) c.0 (sound n (ts ++ completion s) start c.0 (run_append ts (completion s) start ∙ ap (λ o. followed o (λ s'. run_within n s' (completion s))) h ∙ c.1)))
 
-  pub lost_begins_nothing : (ts : List Word) → walk n start ts ≡ None → Begins n ts → ⊥
+  pub lost_begins_nothing : (ts : List Word) → walk_within n start ts ≡ None → Begins n ts → ⊥
   lost_begins_nothing ts h (more, T, e) =
-      none_is_not_some (sym (ap (λ o. followed o (λ s'. run n s' more)) h) ∙ sym (run_append ts more start) ∙ complete n (ts ++ more) start T (completes_of e))
+      none_is_not_some (sym (ap (λ o. followed o (λ s'. run_within n s' more)) h) ∙ sym (run_append ts more start) ∙ complete n (ts ++ more) start T (completes_of e))
 
 -- Where all rules on names are kept, each choice of them is.
 loosened_step : (n : Rules) (b : Option Rule) (o : Option State) (s : State) → kept_by every_rule b o ≡ Some s → kept_by n b o ≡ Some s
 loosened_step n None o s h = h
 loosened_step n (Some rule) o s h = absurd (none_is_not_some h)
 
-pub loosened : (n : Rules) (ts : List Word) (s s' : State) → walk every_rule s ts ≡ Some s' → walk n s ts ≡ Some s'
+pub loosened : (n : Rules) (ts : List Word) (s s' : State) → walk_within every_rule s ts ≡ Some s' → walk_within n s ts ≡ Some s'
 loosened n [] s s' h = h
 loosened n (w ∷ ts) s s' h = go (step_within every_rule s w) refl (λ u. loosened n ts u s') h
   where
-    go : (o : Option State) → step_within every_rule s w ≡ o → ((u : State) → walk every_rule u ts ≡ Some s' → walk n u ts ≡ Some s') → followed o (λ u. walk every_rule u ts) ≡ Some s' → walk n s (w ∷ ts) ≡ Some s'
+    go : (o : Option State) → step_within every_rule s w ≡ o → ((u : State) → walk_within every_rule u ts ≡ Some s' → walk_within n u ts ≡ Some s') → followed o (λ u. walk_within every_rule u ts) ≡ Some s' → walk_within n s (w ∷ ts) ≡ Some s'
     go None e ih h = absurd (none_is_not_some h)
-    go (Some u) e ih h = ap (λ o. followed o (λ v. walk n v ts)) (loosened_step n (broken s w) (step s w) u e) ∙ ih u h
+    go (Some u) e ih h = ap (λ o. followed o (λ v. walk_within n v ts)) (loosened_step n (broken s w) (step s w) u e) ∙ ih u h
 
 append_nothing : (ws : List Word) → ws ++ [] ≡ ws
 append_nothing [] = refl
 append_nothing (w ∷ ws) = ap (λ x. w ∷ x) (append_nothing ws)
 
-pub run_all : (n : Rules) (ws : List Word) (s : State) → walk every_rule start ws ≡ Some s → run n start ws ≡ final s
-run_all n ws s leads = ap (run n start) (sym (append_nothing ws)) ∙ run_append n ws [] start ∙ ap (λ o. followed o (λ u. run n u [])) (loosened n ws start s leads)
+pub run_all : (n : Rules) (ws : List Word) (s : State) → walk_within every_rule start ws ≡ Some s → run_within n start ws ≡ final s
+run_all n ws s leads = ap (run_within n start) (sym (append_nothing ws)) ∙ run_append n ws [] start ∙ ap (λ o. followed o (λ u. run_within n u [])) (loosened n ws start s leads)
 
 -- No two trees are spelled, whatever names mean, and one that keeps all rules keeps each choice of them.
-loosened_run : (n : Rules) (ws : List Word) (s : State) (T : Tree) → run every_rule s ws ≡ Some T → run n s ws ≡ Some T
+loosened_run : (n : Rules) (ws : List Word) (s : State) (T : Tree) → run_within every_rule s ws ≡ Some T → run_within n s ws ≡ Some T
 loosened_run n [] s T h = h
 loosened_run n (w ∷ ws) s T h = go (step_within every_rule s w) refl (λ u. loosened_run n ws u T) h
   where
-    go : (o : Option State) → step_within every_rule s w ≡ o → ((u : State) → run every_rule u ws ≡ Some T → run n u ws ≡ Some T) → followed o (λ u. run every_rule u ws) ≡ Some T → run n s (w ∷ ws) ≡ Some T
+    go : (o : Option State) → step_within every_rule s w ≡ o → ((u : State) → run_within every_rule u ws ≡ Some T → run_within n u ws ≡ Some T) → followed o (λ u. run_within every_rule u ws) ≡ Some T → run_within n s (w ∷ ws) ≡ Some T
     go None e ih h = absurd (none_is_not_some h)
-    go (Some u) e ih h = ap (λ o. followed o (λ v. run n v ws)) (loosened_step n (broken s w) (step s w) u e) ∙ ih u h
+    go (Some u) e ih h = ap (λ o. followed o (λ v. run_within n v ws)) (loosened_step n (broken s w) (step s w) u e) ∙ ih u h
 
 pub only_one_tree : (ws : List Word) (T U : Tree) → Program no_rule ws T → Program every_rule ws U → T ≡ U
 only_one_tree ws T U p q = some_same (sym (complete no_rule ws start T (completes_of no_rule p)) ∙ loosened_run no_rule ws start U (complete every_rule ws start U (completes_of every_rule q)))
 
--- The rules on names.
+pub loosened_program : (n : Rules) (ws : List Word) (T : Tree) → Program every_rule ws T → Program n ws T
+loosened_program n ws T p = program_of n ws T (sound n ws start T (loosened_run n ws start T (complete every_rule ws start T (completes_of every_rule p))))
+
+-- The machine without the rules on names.
 pub no_rule_step : (b : Option Rule) (o : Option State) → kept_by no_rule b o ≡ o
 no_rule_step None o = refl
 no_rule_step (Some rule) o = refl
 
+run_freely : (ws : List Word) (s : State) → run_within no_rule s ws ≡ run s ws
+run_freely [] s = refl
+run_freely (w ∷ ws) s = ap (λ o. followed o (λ u. run_within no_rule u ws)) (no_rule_step (broken s w) (step s w)) ∙ go (step s w) (λ u. run_freely ws u)
+  where
+    go : (o : Option State) → ((u : State) → run_within no_rule u ws ≡ run u ws) → followed o (λ u. run_within no_rule u ws) ≡ followed o (λ u. run u ws)
+    go None ih = refl
+    go (Some u) ih = ih u
+
+-- the machine reads what is spelled
+pub spelled_run : (ws : List Word) (T : Tree) → Program no_rule ws T → run start ws ≡ Some T
+spelled_run ws T p = sym (run_freely ws start) ∙ complete no_rule ws start T (completes_of no_rule p)
+
+-- The rules on names.
 abbrev IsOnNames : Rule → Type 0
 IsOnNames r = same r r ≡ true
 

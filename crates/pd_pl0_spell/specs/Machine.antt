@@ -250,3 +250,12 @@ broken s w = broken_in (role_next s) w
 abbrev pub final : State → Option Tree
 final (Finished b) = Some b
 final _ = None
+
+abbrev pub followed : {A B : Type 0} → Option A → (A → Option B) → Option B
+followed None f = None
+followed (Some a) f = f a
+
+-- where all words lead, whatever names mean
+abbrev pub run : State → List Word → Option Tree
+run s [] = final s
+run s (w ∷ ws) = followed (step s w) (λ s'. run s' ws)

@@ -1,6 +1,6 @@
 -- What refuses a source behind its words: the first breach, and at one word the first rule in this order.
 use Rattle.std.specs.Prelude.{◌≡◌, ℕ, ◌+◌, ◌<◌, ◌≤◌, Bool, true, false, List, [], ◌∷◌, ◌++◌, length, Result, Ok, Err}
-use Rattle.pd_pl0_spell.specs.Words.{Word, Number, Open, Close, Semicolon, Period, ConstKey, VarKey, ProcedureKey, BeginKey, EndKey, IfKey, WhileKey, Tree, name, number, parens, signed, sum, product, odd, compared, empty, assign, call, write, sequence, conditional, while, block, procedure, Trees, none, also}
+use Rattle.pd_pl0_spell.specs.Words.{Word, Number, Open, Close, Semicolon, Period, ConstKey, VarKey, ProcedureKey, BeginKey, EndKey, IfKey, WhileKey, Tree, parens, signed, sum, product, odd, compared, assign, write, sequence, conditional, while, block, procedure, Trees, none, also}
 use Rattle.pd_pl0_spell.specs.Names.{Rule, Unexpected, LiteralTooLarge, Doubled, Undeclared, NotAssignable, NotAProcedure, NotAValue, TooDeep, TooManyNodes, Rules, no_rule, every_rule, only}
 use Rattle.pd_pl0_spell.specs.Grammar.{Program}
 
@@ -88,6 +88,10 @@ Breaches before w TooManyNodes = ⊥
 -- no word breaks a rule
 abbrev pub IsClean : List Word → Type 0
 IsClean ws = (before after : List Word) (w : Word) → ws ≡ before ++ w ∷ after → (rule : Rule) → Breaches before w rule → ⊥
+
+-- no number is too large, and nothing is nested too deep
+abbrev pub IsWithinLimits : List Word → Type 0
+IsWithinLimits ws = (before after : List Word) (w : Word) → ws ≡ before ++ w ∷ after → (IsTooLarge w → ⊥) × (nesting (before ++ w ∷ []) ≤ 200)
 
 -- the place of a rule in the order in which they are tried
 abbrev pub rank : Rule → ℕ
