@@ -8,17 +8,11 @@ use Rattle.pd_pl0_spell.specs.Grammar.{Program}
 use Rattle.pd_pl0_spell.specs.Machine.{State, start, step, role_next, broken, final, followed}
 use Rattle.pd_pl0_spell.specs.Refusals.{nesting, Begins, largest, IsTooLarge, Breaches, IsClean, rank, Precedes, nodes, at_word, at_end, too_many, Answers}
 use Rattle.pd_pl0_spell.specs.Reading.{depth, is_too_large, within_depth, within_names, within_limits, expected, within_room, at_last, going_on, read_from, read}
-use Rattle.pd_pl0_spell.proofs.Keeping.{kept, kept_by, step_within, run_within, walk_within, keeps_kept}
-use Rattle.pd_pl0_spell.proofs.Forward.{complete}
+use Rattle.pd_pl0_spell.proofs.Keeping.{kept, kept_by, step_within, run_within, walk_within, keeps_kept, none_is_not_some, some_same}
+use Rattle.pd_pl0_spell.proofs.Forward.{complete, append_none}
 use Rattle.pd_pl0_spell.proofs.Backward.{sound}
 use Rattle.pd_pl0_spell.proofs.Opens.{walk_opens}
 use Rattle.pd_pl0_spell.proofs.Walks.{program_of, completes_of, walk_append, walked_begins, lost_begins_nothing, loosened, run_all, no_rule_step, broken_on_names, name_rank, precedes_apart}
-
-none_is_not_some : {A : Type 0} {a : A} → None ≡ Some a → ⊥
-none_is_not_some h = cc
-
-some_same : {A : Type 0} {a b : A} → Some a ≡ Some b → a ≡ b
-some_same h = cc
 
 -- The last word of a list, in any way to split the list.
 last_split : (xs us vs : List Word) (x v : Word) → xs ++ x ∷ [] ≡ us ++ v ∷ vs → ((xs ≡ us) × (x ≡ v)) ⊎ ((ws : List Word) × (xs ≡ us ++ v ∷ ws))
@@ -44,10 +38,6 @@ clean_more before w clean here us vs v h rule b =
       | inl g ↦ here rule (subst (λ x. Breaches x w rule) (sym g.0) (subst (λ x. Breaches us x rule) (sym g.1) b))
       | inr g ↦ clean us g.0 v g.1 rule b
     ]
-
-append_nothing : (ws : List Word) → ws ++ [] ≡ ws
-append_nothing [] = refl
-append_nothing (w ∷ ws) = ap (λ x. w ∷ x) (append_nothing ws)
 
 regroup : (before : List Word) (w : Word) (ws : List Word) → (before ++ w ∷ []) ++ ws ≡ before ++ w ∷ ws
 regroup before w ws = append_assoc before (w ∷ []) ws
@@ -194,7 +184,7 @@ last_answer room ws s leads clean = go (final s) refl
     go (Some T) e = fitting T (nat_lt room (nodes T)) refl e
 
 pub read_answers : (room : ℕ) (ws before : List Word) (s : State) → walk_within every_rule start before ≡ Some s → IsClean before → Answers room (before ++ ws) (read_from room (length before) s ws)
-read_answers room [] before s leads clean = subst (λ x. Answers room x (at_last room (length before) (final s))) (sym (append_nothing before)) (last_answer room before s leads clean)
+read_answers room [] before s leads clean = subst (λ x. Answers room x (at_last room (length before) (final s))) (sym (append_none before)) (last_answer room before s leads clean)
 read_answers room (w ∷ ws) before s leads clean = go (step s w) refl (λ s'. read_answers room ws (before ++ w ∷ []) s')
   where
     Goal : Result State Rule → Type 0

@@ -5,14 +5,8 @@ use Rattle.pd_pl0_spell.specs.Names.{Rule, AVariable, AProcedure, Scope, declare
 use Rattle.pd_pl0_spell.specs.Grammar.{Expression, without_sign, with_sign, no_sum, adding, Term, of_factors, no_product, multiplying, a_name, a_number, in_parens, Condition, is_odd, comparison, an_empty, an_assignment, a_call, a_write, a_sequence, an_if, a_while, no_more_statements, next_statement, MoreConstants, no_more_constants, next_constant, no_constant, first_constant, MoreVariables, no_more_variables, next_variable, no_variable, first_variable, Block, a_block, no_more_procedures, next_procedure}
 use Rattle.pd_pl0_spell.specs.Machine.{Left, Sign, Waiting, nothing, term_of, whole, Parts, block_of, with_name, parts_behind, Around, Main, Within, Keyword, ForIf, ForWhile, headed, Holder, InBlock, InSequence, InBody, holder_scope, Stack, AsAssigned, AsWritten, AsOdd, AsLeft, AsRight, InParens, stack_scope, State, BlockStart, BeforeConstant, BeforeEqual, BeforeNumber, AfterConstant, AfterConstants, BeforeVariable, AfterVariable, AfterVariables, BeforeProcedure, AfterProcedure, BeforeStatement, BeforeBecomes, BeforeCallee, AfterStatement, BeforeCondition, BeforeExpression, Wants, Has, Finished, block_ends, statement_ends, condition_ends, ends, after_operand, operand, expression, statement, procedures, variables, constants, step, broken_in, broken, final, followed}
 use Rattle.pd_pl0_spell.proofs.Completes.{Cont, Comes, comes, comes_with, at_the_end, AfterTerm, AfterFactor, BeforeOperand, ExpressionThen, FollowsBlock, InProcedures, InVariables, InConstants, MoreConstantsThen, MoreVariablesThen, FollowsStatement, StatementThen, FollowsCondition, Follows, Completes}
-use Rattle.pd_pl0_spell.proofs.Keeping.{kept, kept_by, run_within}
+use Rattle.pd_pl0_spell.proofs.Keeping.{kept, kept_by, run_within, none_is_not_some, some_same}
 use Rattle.pd_pl0_spell.proofs.Forward.{joined_one, joined_none, append_none, Read, Assigned}
-
-none_is_not_some : {A : Type 0} {a : A} → None ≡ Some a → ⊥
-none_is_not_some h = cc
-
-some_same : {A : Type 0} {a b : A} → Some a ≡ Some b → a ≡ b
-some_same h = cc
 
 module _ (n : Rules) where
   -- One step back.

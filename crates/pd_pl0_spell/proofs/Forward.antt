@@ -5,10 +5,7 @@ use Rattle.pd_pl0_spell.specs.Names.{Scope, Role, Declaring, Assigning, Calling,
 use Rattle.pd_pl0_spell.specs.Grammar.{Expression, without_sign, with_sign, MoreTerms, no_sum, adding, Term, of_factors, MoreFactors, no_product, multiplying, Factor, a_name, a_number, in_parens, Condition, is_odd, comparison, Statement, an_empty, an_assignment, a_call, a_write, a_sequence, an_if, a_while, MoreStatements, no_more_statements, next_statement, MoreConstants, no_more_constants, next_constant, Constants, no_constant, first_constant, MoreVariables, no_more_variables, next_variable, Variables, no_variable, first_variable, Block, a_block, Procedures, no_more_procedures, next_procedure}
 use Rattle.pd_pl0_spell.specs.Machine.{Left, Sign, Waiting, nothing, term_of, whole, Parts, block_of, with_name, parts_behind, Around, Main, Within, Keyword, ForIf, ForWhile, headed, Holder, InBlock, InSequence, InBody, holder_scope, Stack, AsAssigned, AsWritten, AsOdd, AsLeft, AsRight, InParens, stack_scope, State, BlockStart, BeforeConstant, BeforeEqual, BeforeNumber, AfterConstant, AfterConstants, BeforeVariable, AfterVariable, AfterVariables, BeforeProcedure, AfterProcedure, BeforeStatement, BeforeBecomes, BeforeCallee, AfterStatement, BeforeCondition, BeforeExpression, Wants, Has, Finished, block_ends, statement_ends, condition_ends, after_operand, operand, expression, statement, procedures, variables, constants, step, role_next, broken_in, broken, final, followed}
 use Rattle.pd_pl0_spell.proofs.Completes.{Cont, comes, ComesWith, comes_with, AtEnd, at_the_end, AfterTerm, AfterFactor, BeforeOperand, FollowsBlock, StatementOf, InProcedures, InVariables, InConstants, FollowsStatement, FollowsCondition, Follows, Completes}
-use Rattle.pd_pl0_spell.proofs.Keeping.{run_within, keeps_kept}
-
-none_is_not_some : {A : Type 0} {a : A} → None ≡ Some a → ⊥
-none_is_not_some h = cc
+use Rattle.pd_pl0_spell.proofs.Keeping.{run_within, keeps_kept, none_is_not_some}
 
 pub joined_one : (xs : Trees) (x : Tree) (ys : Trees) → joined (with_last xs x) ys ≡ joined xs (also x ys)
 joined_one none x ys = refl

@@ -4,6 +4,12 @@ use Rattle.pd_pl0_spell.specs.Words.{Word, Tree}
 use Rattle.pd_pl0_spell.specs.Names.{Rule, Rules, IsLetBe, Keeps}
 use Rattle.pd_pl0_spell.specs.Machine.{State, step, broken, final, followed}
 
+pub none_is_not_some : {A : Type 0} {a : A} → None ≡ Some a → ⊥
+none_is_not_some h = cc
+
+pub some_same : {A : Type 0} {a b : A} → Some a ≡ Some b → a ≡ b
+some_same h = cc
+
 abbrev pub kept : Bool → Option State → Option State
 kept true o = None
 kept false o = o

@@ -5,14 +5,8 @@ use Rattle.pd_pl0_spell.specs.Names.{Rule, Scope, Rules}
 use Rattle.pd_pl0_spell.specs.Machine.{Waiting, nothing, whole, Parts, block_of, parts_behind, Around, Main, Within, Keyword, ForIf, ForWhile, headed, Holder, InBlock, InSequence, InBody, Stack, AsAssigned, AsWritten, AsOdd, AsLeft, AsRight, InParens, State, BlockStart, BeforeConstant, BeforeEqual, BeforeNumber, AfterConstant, AfterConstants, BeforeVariable, AfterVariable, AfterVariables, BeforeProcedure, AfterProcedure, BeforeStatement, BeforeBecomes, BeforeCallee, AfterStatement, BeforeCondition, BeforeExpression, Wants, Has, block_ends, statement_ends, condition_ends, ends, after_operand, operand, expression, statement, procedures, variables, constants, step, broken, followed}
 use Rattle.pd_pl0_spell.specs.Refusals.{Opener, Heading, Opened, opened, opened_behind}
 use Rattle.pd_pl0_spell.specs.Reading.{around_openers, holder_openers, stack_openers, reads, open_at}
-use Rattle.pd_pl0_spell.proofs.Keeping.{kept, kept_by, step_within, walk_within}
+use Rattle.pd_pl0_spell.proofs.Keeping.{kept, kept_by, step_within, walk_within, none_is_not_some, some_same}
 use Rattle.pd_pl0_spell.proofs.Forward.{is_ender, statement_goes_on}
-
-none_is_not_some : {A : Type 0} {a : A} → None ≡ Some a → ⊥
-none_is_not_some h = cc
-
-some_same : {A : Type 0} {a b : A} → Some a ≡ Some b → a ≡ b
-some_same h = cc
 
 abbrev pub Opens : Opened → Word → Option State → Type 0
 Opens os w None = Unit {0}

@@ -6,16 +6,10 @@ use Rattle.pd_pl0_spell.specs.Grammar.{a_block, Program, a_program}
 use Rattle.pd_pl0_spell.specs.Machine.{Main, State, start, step, broken_in, broken, final, run, followed}
 use Rattle.pd_pl0_spell.specs.Refusals.{Begins, rank}
 use Rattle.pd_pl0_spell.proofs.Completes.{comes, at_the_end, Completes}
-use Rattle.pd_pl0_spell.proofs.Keeping.{kept_by, step_within, run_within, walk_within}
-use Rattle.pd_pl0_spell.proofs.Forward.{block_begun, complete}
+use Rattle.pd_pl0_spell.proofs.Keeping.{kept_by, step_within, run_within, walk_within, none_is_not_some, some_same}
+use Rattle.pd_pl0_spell.proofs.Forward.{block_begun, complete, append_none}
 use Rattle.pd_pl0_spell.proofs.Backward.{sound}
 use Rattle.pd_pl0_spell.proofs.Completion.{completion, completed}
-
-none_is_not_some : {A : Type 0} {a : A} → None ≡ Some a → ⊥
-none_is_not_some h = cc
-
-some_same : {A : Type 0} {a b : A} → Some a ≡ Some b → a ≡ b
-some_same h = cc
 
 module _ (n : Rules) where
   -- A program is what completes the first state.
@@ -63,12 +57,8 @@ loosened n (w ∷ ts) s s' h = go (step_within every_rule s w) refl (λ u. loose
     go None e ih h = absurd (none_is_not_some h)
     go (Some u) e ih h = ap (λ o. followed o (λ v. walk_within n v ts)) (loosened_step n (broken s w) (step s w) u e) ∙ ih u h
 
-append_nothing : (ws : List Word) → ws ++ [] ≡ ws
-append_nothing [] = refl
-append_nothing (w ∷ ws) = ap (λ x. w ∷ x) (append_nothing ws)
-
 pub run_all : (n : Rules) (ws : List Word) (s : State) → walk_within every_rule start ws ≡ Some s → run_within n start ws ≡ final s
-run_all n ws s leads = ap (run_within n start) (sym (append_nothing ws)) ∙ run_append n ws [] start ∙ ap (λ o. followed o (λ u. run_within n u [])) (loosened n ws start s leads)
+run_all n ws s leads = ap (run_within n start) (sym (append_none ws)) ∙ run_append n ws [] start ∙ ap (λ o. followed o (λ u. run_within n u [])) (loosened n ws start s leads)
 
 -- No two trees are spelled, whatever names mean, and one that keeps all rules keeps each choice of them.
 loosened_run : (n : Rules) (ws : List Word) (s : State) (T : Tree) → run_within every_rule s ws ≡ Some T → run_within n s ws ≡ Some T
