@@ -28,7 +28,7 @@ pub struct Ran {
 /// Runs a program from an item with so much fuel, at most 16,777,216, under a watcher that was told nothing yet. Where it
 /// answers, the watcher was told exactly the events that the program means under the verdicts that it keeps, and the
 /// answer is the output, the end, the fuel used and the number of events that it means. After want of memory the watcher
-/// keeps what it was told before.
+/// keeps what it was told before. In each case what its calls leave as it was is as before.
 pub fn run<W: Watcher>(
     alloc: Global,
     program: &Program,
@@ -39,7 +39,8 @@ pub fn run<W: Watcher>(
     requires fuel { fuel ≤ 2 ^ 24 }
     requires no_events { W.events w.old ≡ [] }
     requires no_verdicts { W.kept w.old ≡ [] }
-    ensures { IfOk result (λ r. IsRan r (W.events w.new) (meaning_of program.now entry fuel (W.kept w.new))) }
+    ensures ran { IfOk result (λ r. IsRan r (W.events w.new) (meaning_of program.now entry fuel (W.kept w.new))) }
+    ensures fixed { W.fixed w.new ≡ W.fixed w.old }
 {
     match root_of(program, entry) {
         Some(root) => run_from(alloc, program, root, fuel, w),
@@ -63,7 +64,8 @@ fn run_from<W: Watcher>(
     requires fuel { fuel ≤ 2 ^ 24 }
     requires no_events { W.events w.old ≡ [] }
     requires no_verdicts { W.kept w.old ≡ [] }
-    ensures { IfOk result (λ r. (entry : ℕ) → (item_at program.now entry).root ≡ Some root → IsRan r (W.events w.new) (meaning_of program.now entry fuel (W.kept w.new))) }
+    ensures ran { IfOk result (λ r. (entry : ℕ) → (item_at program.now entry).root ≡ Some root → IsRan r (W.events w.new) (meaning_of program.now entry fuel (W.kept w.new))) }
+    ensures fixed { W.fixed w.new ≡ W.fixed w.old }
 {
     let mut m = open_machine(alloc, program, root, fuel)?;
     'turns: while !m.is_over() {
@@ -89,6 +91,7 @@ fn step<W: Watcher>(
     requires room { m.old.told + 1 < 2 ^ 32 }
     ensures stands { IfOk result (λ _. (fuel root : ℕ) → Stands program.now fuel root (W.events w.old) (W.kept w.old) m.old → Stands program.now fuel root (W.events w.new) (W.kept w.new) m.new) }
     ensures lowers { IfOk result (λ _. IsCounted (W.events w.old) (W.kept w.old) m.old → weight (with_events m.new (W.events w.new)) < weight (with_events m.old (W.events w.old))) }
+    ensures fixed { W.fixed w.new ≡ W.fixed w.old }
 {
     match turn(alloc, m, program)? {
         Turn::Quiet => Ok(()),

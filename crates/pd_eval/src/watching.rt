@@ -22,11 +22,17 @@ pub trait Watcher {
 
     ghost kept: { Self → Verdicts };
 
+    // What its calls leave as it was.
+    ghost Fixed: { Type 0 };
+
+    ghost fixed: { Self → Self.Fixed };
+
     /// An event, with the frames at it.
     fn event(&mut self, event: &Event, scene: &Scene<'_>) -> Result<Verdict, AllocError>
         ensures told { IfOk result (λ v. events self.new ≡ events self.old ++ record { event = event.now; scene = scene.now } ∷ []) }
         ensures kept { IfOk result (λ v. kept self.new ≡ keep (kept self.old) event.now.number v) }
-        ensures values { IfOk result GivesNoFunction };
+        ensures values { IfOk result GivesNoFunction }
+        ensures fixed { Self.fixed self.new ≡ Self.fixed self.old };
 }
 
 /// Tells an event to the watcher, and obeys its verdict.
@@ -38,6 +44,7 @@ pub fn serve<W: Watcher>(
 ) -> Result<(), AllocError>
     ensures told { IfOk result (λ _. W.events w.new ≡ W.events w.old ++ record { event = event; scene = standing event.node (scene_of m.old) } ∷ []) }
     ensures kept { IfOk result (λ _. (v : Answer) × (W.kept w.new ≡ keep (W.kept w.old) event.number v) × HasObeyed program.now event v m.old m.new) }
+    ensures fixed { W.fixed w.new ≡ W.fixed w.old }
 {
     let verdict = w.event(&event, &m.scene(event.node))?;
     if counts(program, &event) {
