@@ -1,0 +1,9 @@
+//! The record of one run under one observer of statements.
+#![tactic(auto)]
+
+mod heard;
+mod record;
+mod recorder;
+
+pub use pd_log::Entry;
+pub use record::{Traced, run};
