@@ -14,7 +14,7 @@ use Rattle.pd_sl_read.proofs.Turns.{all_turned}
 use Rattle.pd_sl_read.proofs.Counts.{all_counted}
 use Rattle.pd_sl_parse.specs.Scopes.{Scoped, no_scope, entered}
 use Rattle.pd_sl_parse.specs.Additions.{IsAdded, IsAdditionOf, AreAdditionsOf, IsTreeOf}
-use Rattle.pd_sl_parse.proofs.Slots.{SlotsFit, entered_fits, meaning_fits}
+use Rattle.pd_sl_parse.proofs.Slots.{SlotsFit, none_fits, entered_fits, meaning_fits}
 use Rattle.pd_sl_parse.proofs.Whole.{whole, AllSmall, small_more, entered_all, entered_more, additions_more}
 use Rattle.pd_sl_parse.proofs.Within.{IsShort, AllShort, trees_short, program_ends, trees_length}
 
@@ -25,7 +25,7 @@ pub record Built (bytes : List ℕ) (tokens : List Token) (source most : ℕ) (n
   pub slots : SlotsFit (most + i) s
 
 pub built_none : (bytes : List ℕ) (tokens : List Token) (source most : ℕ) (nodes : List (Node Part)) → Built bytes tokens source most nodes 0 no_scope []
-built_none bytes tokens source most nodes = record { scope = refl; additions = tt; small = tt; slots = (omega arith, tt) }
+built_none bytes tokens source most nodes = record { scope = refl; additions = tt; small = tt; slots = none_fits most }
 
 short_at : (n : ℕ) (xs : List (Node Part)) (i : ℕ) (d : Node Part) → i < length xs → AllShort n xs → IsShort n (get_or xs i d).what.shape
 short_at n [] i d lt h = absurd (omega arith)

@@ -1,4 +1,5 @@
 pub mod Scoping
+pub mod Naming
 pub mod Names
 pub mod Forest
 pub mod Fitting

@@ -1,24 +1,11 @@
--- Scopes: the last variable first, the innermost block first.
-use Rattle.std.proofs.Common.{◌≡◌, ℕ, ◌+◌, ◌*◌, ◌<◌, ◌≤◌, true, false, List, [], ◌∷◌, ◌++◌, length, take, reverse, get_or, Option, Some, None, refl, sym, ap, ◌∙◌, add-one, arith}
-use Rattle.std.specs.Prelude.{bytes_eq, if◌then◌else◌}
+-- Scopes: the innermost block first.
+use Rattle.std.proofs.Common.{◌≡◌, ℕ, ◌+◌, ◌*◌, ◌<◌, ◌≤◌, List, [], ◌∷◌, ◌++◌, length, reverse, Option, Some, None, refl, sym, ap, ◌∙◌, add-one, arith}
+use Rattle.std.specs.Prelude.{if◌then◌else◌}
 use Rattle.std.proofs.lemmas.Bool.{lt-ltb, le-ltb}
-use Rattle.std.proofs.lemmas.List.{reverse-append, take_more}
+use Rattle.std.proofs.lemmas.List.{reverse-append}
 use Rattle.pd_sections.specs.declared.Token.{Token}
 use Rattle.pd_sl_parse.specs.declared.scope.Variable.{Variable}
 use Rattle.pd_sl_parse.specs.Scopes.{Scoped, text_at, latest, open_at, with_parameter, with_parameters}
-
-reverse_next : (vs : List Variable) (i : ℕ) (d : Variable) → i < length vs → reverse (take (i + 1) vs) ≡ get_or vs i d ∷ reverse (take i vs)
-reverse_next vs i d lt = ap reverse (take_more vs i d lt) ∙ reverse-append (take i vs) (get_or vs i d ∷ [])
-
--- the variable with this number has the name
-pub found : (bytes : List ℕ) (tokens : List Token) (name : List ℕ) (vs : List Variable) (i : ℕ) (v : Variable) → i < length vs → v ≡ get_or vs i v → bytes_eq (text_at bytes tokens v.token) name ≡ true → Some v ≡ latest bytes tokens name (reverse (take (i + 1) vs))
-found bytes tokens name vs i v lt e h =
-    sym (ap (latest bytes tokens name) (reverse_next vs i v lt ∙ ap (λ x. x ∷ reverse (take i vs)) (sym e)) ∙ ap (λ b. if b then Some v else latest bytes tokens name (reverse (take i vs))) h)
-
--- it hasn't
-pub not_found : (bytes : List ℕ) (tokens : List Token) (name : List ℕ) (vs : List Variable) (i : ℕ) (v : Variable) → i < length vs → v ≡ get_or vs i v → bytes_eq (text_at bytes tokens v.token) name ≡ false → latest bytes tokens name (reverse (take i vs)) ≡ latest bytes tokens name (reverse (take (i + 1) vs))
-not_found bytes tokens name vs i v lt e h =
-    sym (ap (latest bytes tokens name) (reverse_next vs i v lt ∙ ap (λ x. x ∷ reverse (take i vs)) (sym e)) ∙ ap (λ b. if b then Some v else latest bytes tokens name (reverse (take i vs))) h)
 
 pub open_kept : (at end : ℕ) (ends : List ℕ) → at < end → open_at at (end ∷ ends) ≡ end ∷ ends
 unfolding open_at
@@ -32,16 +19,16 @@ pub open_none : (at : ℕ) → open_at at [] ≡ []
 unfolding open_at
 open_none at = refl
 
-pub parameters_next : (bytes : List ℕ) (tokens : List Token) (first until k : ℕ) (s : Scoped) → with_parameters bytes tokens first until (k + 1) s ≡ (let r = with_parameters bytes tokens first until k s in with_parameter (latest bytes tokens (text_at bytes tokens (first + 2 * k)) r.variables) (first + 2 * k) until r)
+pub parameters_next : (bytes : List ℕ) (tokens : List Token) (first until k : ℕ) (s : Scoped) → with_parameters bytes tokens first until (k + 1) s ≡ (let r = with_parameters bytes tokens first until k s in let name = text_at bytes tokens (first + 2 * k) in with_parameter (latest name r.variables) name until r)
 parameters_next bytes tokens first until k s = rw add-one refl
 
-with_parameter_slots : (o : Option Variable) (token until n : ℕ) (s : Scoped) → s.slots ≤ n → (with_parameter o token until s).slots ≤ n + 1
-with_parameter_slots (Some v) token until n s h = omega arith
-with_parameter_slots None token until n s h = omega arith
+with_parameter_slots : (o : Option Variable) (name : List ℕ) (until n : ℕ) (s : Scoped) → s.slots ≤ n → (with_parameter o name until s).slots ≤ n + 1
+with_parameter_slots (Some v) name until n s h = omega arith
+with_parameter_slots None name until n s h = omega arith
 
 -- one parameter more
-pub parameter_counts : (o : Option Variable) (token until n : ℕ) (s r : Scoped) → r ≡ with_parameter o token until s → s.slots ≤ n → r.slots ≤ n + 1
-parameter_counts o token until n s r e h = omega (arith, ap (λ (x : Scoped). x.slots) e, with_parameter_slots o token until n s h)
+pub parameter_counts : (o : Option Variable) (name : List ℕ) (until n : ℕ) (s r : Scoped) → r ≡ with_parameter o name until s → s.slots ≤ n → r.slots ≤ n + 1
+parameter_counts o name until n s r e h = omega (arith, ap (λ (x : Scoped). x.slots) e, with_parameter_slots o name until n s h)
 
 ends_reversed : (ends : List ℕ) (end : ℕ) → reverse (ends ++ end ∷ []) ≡ end ∷ reverse ends
 ends_reversed ends end = reverse-append ends (end ∷ [])

@@ -1,6 +1,11 @@
 -- The variables of an SL function, as its nodes are passed in the order of its text. Places are numbers of tokens.
 -- A name is a variable from the end of the first assignment to it that has ended, up to the end of the block that it stands in.
-use Rattle.std.specs.Prelude.{ℕ, zero, suc, ◌+◌, ◌*◌, ◌&&◌, if◌then◌else◌, nat_le, nat_lt, List, [], ◌∷◌, slice_index_or, Option, Some, None, bytes_eq}
+use Rattle.std.specs.Prelude.{ℕ, zero, suc, ◌+◌, ◌*◌, ◌&&◌, if◌then◌else◌, nat_le, nat_lt, List, [], ◌∷◌, map, slice_index_or, Option, Some, None, refl}
+use denote.Ref.{Bor}
+use Rattle.std.specs.Cmp.Lexicographic.{slice_cmp}
+use Rattle.std.specs.Coded.{Coded, code_by, coded×, coded_ℕ, coded_list}
+use Rattle.std.specs.FinMap as maps
+use Rattle.std.specs.Ordering.{nat_cmp}
 use Rattle.pd_sections.specs.declared.Token.{Token}
 use Rattle.pd_sections.specs.declared.TokenKind.TheVariants.{Name as NameToken}
 use Rattle.pd_tree.specs.declared.kind.Meaning.{Meaning}
@@ -20,20 +25,31 @@ token_at tokens i = slice_index_or tokens i no_token
 abbrev pub text_at : List ℕ → List Token → ℕ → List ℕ
 text_at bytes tokens i = text_of bytes (token_at tokens i)
 
+-- the latest variable of each name
+abbrev pub Variables : Type 0
+Variables = maps.FinMap (slice_cmp nat_cmp) Variable
+
+-- the map of these entries
+abbrev pub variables_of : List (Bor (List ℕ) × Variable) → Variables
+variables_of entries = maps.from_entries (map (λ e. (e.0.now, e.1)) entries)
+
 pub record Scoped : Type 0 where
   -- the ends of the blocks that are open, the innermost first
   pub blocks : List ℕ
-  -- the latest first
-  pub variables : List Variable
+  pub variables : Variables
   pub slots : ℕ
 
-abbrev pub no_scope : Scoped
-no_scope = record { blocks = []; variables = []; slots = 0 }
+abbrev pub variable_code : Coded Variable
+variable_code = code_by (ℕ × (ℕ × ℕ)) (coded× coded_ℕ (coded× coded_ℕ coded_ℕ)) (λ v. (v.slot, (v.from, v.until))) (λ p. record { slot = p.0; from = p.1.0; until = p.1.1 }) (λ _. refl)
 
--- the latest variable of a name
-abbrev pub latest : List ℕ → List Token → List ℕ → List Variable → Option Variable
-latest bytes tokens name [] = None
-latest bytes tokens name (v ∷ vs) = if bytes_eq (text_at bytes tokens v.token) name then Some v else latest bytes tokens name vs
+abbrev pub scoped_code : Coded Scoped
+scoped_code = code_by (List ℕ × (Variables × ℕ)) (coded× (coded_list coded_ℕ) (coded× (maps.code (coded_list coded_ℕ) variable_code) coded_ℕ)) (λ s. (s.blocks, (s.variables, s.slots))) (λ p. record { blocks = p.0; variables = p.1.0; slots = p.1.1 }) (λ _. refl)
+
+abbrev pub no_scope : Scoped
+no_scope = record { blocks = []; variables = maps.empty; slots = 0 }
+
+abbrev pub latest : List ℕ → Variables → Option Variable
+latest name variables = maps.get variables name
 
 -- the blocks that are still open at a place
 unfoldable pub open_at : ℕ → List ℕ → List ℕ
@@ -44,35 +60,35 @@ abbrev pub innermost : List ℕ → ℕ
 innermost [] = 0
 innermost (end ∷ ends) = end
 
-abbrev pub with_variable : Variable → Scoped → Scoped
-with_variable v s = record { blocks = s.blocks; variables = v ∷ s.variables; slots = s.slots + 1 }
+abbrev pub with_variable : List ℕ → Variable → Scoped → Scoped
+with_variable name v s = record { blocks = s.blocks; variables = maps.insert s.variables name v; slots = s.slots + 1 }
 
 -- a parameter that is named twice is one variable
-abbrev pub with_parameter : Option Variable → ℕ → ℕ → Scoped → Scoped
-with_parameter (Some v) token until s = s
-with_parameter None token until s = with_variable (record { token = token; slot = s.slots; from = 0; until = until }) s
+abbrev pub with_parameter : Option Variable → List ℕ → ℕ → Scoped → Scoped
+with_parameter (Some v) name until s = s
+with_parameter None name until s = with_variable name (record { slot = s.slots; from = 0; until = until }) s
 
 abbrev pub with_parameters : List ℕ → List Token → ℕ → ℕ → ℕ → Scoped → Scoped
 with_parameters bytes tokens first until zero s = s
 with_parameters bytes tokens first until (suc n) s =
     let r = with_parameters bytes tokens first until n s in
-    let token : ℕ = first + 2 * n in
-    with_parameter (latest bytes tokens (text_at bytes tokens token) r.variables) token until r
+    let name = text_at bytes tokens (first + 2 * n) in
+    with_parameter (latest name r.variables) name until r
 
 abbrev pub sooner : Variable → ℕ → Variable
-sooner v from = record { token = v.token; slot = v.slot; from = from; until = v.until }
+sooner v from = record { slot = v.slot; from = from; until = v.until }
 
 -- a variable that is being assigned is seen behind the first assignment to it that ends
-abbrev pub assigned_again : Variable → Part → Scoped → Scoped
-assigned_again v p s = if nat_lt p.end v.from then record { blocks = s.blocks; variables = sooner v p.end ∷ s.variables; slots = s.slots } else s
+abbrev pub assigned_again : List ℕ → Variable → Part → Scoped → Scoped
+assigned_again name v p s = if nat_lt p.end v.from then record { blocks = s.blocks; variables = maps.insert s.variables name (sooner v p.end); slots = s.slots } else s
 
-abbrev pub assigned_new : Part → Scoped → Scoped
-assigned_new p s = with_variable (record { token = p.first; slot = s.slots; from = p.end; until = innermost s.blocks }) s
+abbrev pub assigned_new : List ℕ → Part → Scoped → Scoped
+assigned_new name p s = with_variable name (record { slot = s.slots; from = p.end; until = innermost s.blocks }) s
 
 -- an assignment to a name that is no variable here makes a new one of its block
-abbrev pub assigned : Option Variable → Part → Scoped → Scoped
-assigned None p s = assigned_new p s
-assigned (Some v) p s = if nat_lt p.first v.until then assigned_again v p s else assigned_new p s
+abbrev pub assigned : Option Variable → List ℕ → Part → Scoped → Scoped
+assigned None name p s = assigned_new name p s
+assigned (Some v) name p s = if nat_lt p.first v.until then assigned_again name v p s else assigned_new name p s
 
 abbrev pub left : ℕ → Scoped → Scoped
 left at s = record { blocks = open_at at s.blocks; variables = s.variables; slots = s.slots }
@@ -86,8 +102,8 @@ entered_in (shapes.Function n) bytes tokens p s = with_parameters bytes tokens (
 entered_in shapes.Body bytes tokens p s = block_entered p s
 entered_in shapes.Block bytes tokens p s = block_entered p s
 entered_in shapes.Assign bytes tokens p s =
-    let r = left p.first s in
-    assigned (latest bytes tokens (text_at bytes tokens p.first) r.variables) p r
+    let name = text_at bytes tokens p.first in
+    assigned (latest name s.variables) name p (left p.first s)
 entered_in _ bytes tokens p s = s
 
 abbrev pub entered : List ℕ → List Token → Part → Scoped → Scoped
@@ -103,6 +119,6 @@ read_meaning at (Some v) = if nat_le v.from at && nat_lt at v.until then Local 0
 
 -- what a node's name means, behind its first token
 abbrev pub meaning_in : Shape → List ℕ → List Token → Part → Scoped → Meaning
-meaning_in shapes.Assign bytes tokens p s = assigned_meaning (latest bytes tokens (text_at bytes tokens p.first) s.variables)
-meaning_in shapes.Name bytes tokens p s = read_meaning p.first (latest bytes tokens (text_at bytes tokens p.first) s.variables)
+meaning_in shapes.Assign bytes tokens p s = assigned_meaning (latest (text_at bytes tokens p.first) s.variables)
+meaning_in shapes.Name bytes tokens p s = read_meaning p.first (latest (text_at bytes tokens p.first) s.variables)
 meaning_in _ bytes tokens p s = Nothing

@@ -15,11 +15,11 @@ use pd_turn::Node;
 use std::alloc::{AllocError, Global};
 
 /// Adds the next node of a source to its tree.
-fn add(
+fn add<'a>(
     alloc: Global,
     builder: &mut Builder,
-    scope: &mut Scope,
-    source: &Source,
+    scope: &mut Scope<'a>,
+    source: &'a Source,
     number: u32,
     tokens: &Tokens,
     node: &Node<Part>,

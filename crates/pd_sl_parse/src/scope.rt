@@ -1,5 +1,6 @@
 //! The variables that a name can mean.
 ghost use Rattle.std.specs.Prelude.{◌≡◌, ◌<◌, ◌≤◌, ◌+◌, ◌*◌, ◌^◌, length, reverse, OnOk};
+ghost use Rattle.std.specs.FinMap as maps;
 ghost use Rattle.pd_sections.specs.Lexing.{InOrder};
 ghost use Rattle.pd_sl_parse.specs.Scopes.{text_at, no_scope, latest, open_at, left, with_variable, with_parameter, with_parameters, assigned, assigned_new, assigned_again, block_entered, entered, meaning_in, innermost};
 
@@ -8,52 +9,54 @@ use pd_sections::{Source, Tokens};
 use pd_sl_read::{Part, Shape};
 use pd_tree::Meaning;
 use std::alloc::{AllocError, Global};
+use std::collections::BTreeMap;
 use std::marker::Model;
 
-/// A variable of a function: the token that names it, its slot, and from which token on up to which it is seen.
+/// A variable of a function: its slot, and from which token on up to which it is seen.
 #[derive(Clone, Copy, Drop)]
 pub struct Variable {
-    pub token: usize,
     pub slot: u32,
     pub from: u32,
     pub until: u32,
 }
 
-/// The open blocks and the variables of a function, as its nodes are passed in the order of its text.
+/// The open blocks and the latest variable of each name of a function, as its nodes are passed in the order of its text.
+/// A variable of a block that has ended stays until its name is assigned again: it is seen no more.
 #[derive(Drop)]
-pub struct Scope {
+pub struct Scope<'a> {
     blocks: Vec<u32>,
-    variables: Vec<Variable>,
+    variables: BTreeMap<&'a [u8], Variable>,
     slots: u32,
 }
 
-impl Model for Scope {
-    ghost use Rattle.std.specs.Prelude.{reverse};
-    ghost use Rattle.pd_sl_parse.specs.Scopes.{Scoped};
+impl<'a> Model for Scope<'a> {
+    ghost use Rattle.std.specs.Prelude.{reverse, length};
+    ghost use Rattle.pd_sl_parse.specs.Scopes.{Scoped, scoped_code, variables_of};
 
     ghost Value = { Scoped };
 
-    ghost view = { λ s. record { blocks = reverse s.blocks.items; variables = reverse s.variables.items; slots = s.slots } };
+    ghost coded = { scoped_code };
+
+    ghost view = { λ s. record { blocks = reverse s.blocks.items; variables = variables_of s.variables.entries; slots = s.slots } };
 }
 
-impl Scope {
+impl<'a> Scope<'a> {
     /// No variable and no block.
-    pub fn new(alloc: Global) -> Scope
+    pub fn new(alloc: Global) -> Scope<'a>
         ensures { result ≡ no_scope }
     {
         Scope {
             blocks: Vec::new(alloc),
-            variables: Vec::new(alloc),
+            variables: BTreeMap::new(alloc),
             slots: 0,
         }
     }
 
     /// The latest variable of this name.
-    fn find(&self, source: &Source, tokens: &Tokens, name: &[u8]) -> Option<Variable>
-        requires { InOrder 0 (length source.now.bytes) tokens.now }
-        ensures { result ≡ latest source.now.bytes tokens.now name.now self.now.variables }
+    fn find(&self, name: &'a [u8]) -> Option<Variable>
+        ensures { result ≡ latest name.now self.now.variables }
     {
-        find_in(source, tokens, self.variables.as_slice(), name)
+        self.variables.get(&name).copied()
     }
 
     /// The blocks that have ended before this token are left.
@@ -64,17 +67,12 @@ impl Scope {
     }
 
     /// A variable is declared in the next slot.
-    fn declare(&mut self, token: usize, from: u32, until: u32) -> Result<(), AllocError>
+    fn declare(&mut self, name: &'a [u8], from: u32, until: u32) -> Result<(), AllocError>
         requires room { self.old.slots + 1 < 2 ^ 32 }
-        ensures { OnOk result (self.new ≡ with_variable (record { token = token; slot = self.old.slots; from = from; until = until }) self.old) }
+        ensures { OnOk result (self.new ≡ with_variable name.now (record { slot = self.old.slots; from = from; until = until }) self.old) }
     {
         let slot = self.slots;
-        self.variables.push(Variable {
-            token,
-            slot,
-            from,
-            until,
-        })?;
+        self.variables.insert(name, Variable { slot, from, until })?;
         self.slots = slot + 1;
         Ok(())
     }
@@ -90,28 +88,20 @@ impl Scope {
     }
 
     /// A parameter, which is a variable if none before it has its name.
-    fn declare_parameter(
-        &mut self,
-        source: &Source,
-        tokens: &Tokens,
-        token: usize,
-        until: u32,
-    ) -> Result<(), AllocError>
-        requires tokens { InOrder 0 (length source.now.bytes) tokens.now }
+    fn declare_parameter(&mut self, name: &'a [u8], until: u32) -> Result<(), AllocError>
         requires room { self.old.slots + 1 < 2 ^ 32 }
-        ensures { OnOk result (self.new ≡ with_parameter (latest source.now.bytes tokens.now (text_at source.now.bytes tokens.now token) self.old.variables) token until self.old) }
+        ensures { OnOk result (self.new ≡ with_parameter (latest name.now self.old.variables) name.now until self.old) }
     {
-        let name = text_at(source, tokens, token);
-        match self.find(source, tokens, name) {
+        match self.find(name) {
             Some(_) => Ok(()),
-            None => self.declare(token, 0, until),
+            None => self.declare(name, 0, until),
         }
     }
 
     /// The parameters, of which the first is this token, and every second.
     fn declare_parameters(
         &mut self,
-        source: &Source,
+        source: &'a Source,
         tokens: &Tokens,
         first: usize,
         until: u32,
@@ -123,49 +113,55 @@ impl Scope {
         ensures { OnOk result (self.new ≡ with_parameters source.now.bytes tokens.now first until count self.old) }
     {
         for k in 0..count {
-            self.declare_parameter(source, tokens, first + 2 * k as usize, until)?;
+            let name = text_at(source, tokens, first + 2 * k as usize);
+            self.declare_parameter(name, until)?;
         }
         Ok(())
     }
 
     /// Another assignment to a variable, which may be the first that ends.
-    fn assign_again(&mut self, variable: Variable, part: Part) -> Result<(), AllocError>
-        ensures { OnOk result (self.new ≡ assigned_again variable part self.old) }
+    fn assign_again(
+        &mut self,
+        name: &'a [u8],
+        variable: Variable,
+        part: Part,
+    ) -> Result<(), AllocError>
+        ensures { OnOk result (self.new ≡ assigned_again name.now variable part self.old) }
     {
         if part.end < variable.from {
-            self.variables.push(Variable {
-                token: variable.token,
-                slot: variable.slot,
-                from: part.end,
-                until: variable.until,
-            })?;
+            self.variables.insert(
+                name,
+                Variable {
+                    slot: variable.slot,
+                    from: part.end,
+                    until: variable.until,
+                },
+            )?;
         }
         Ok(())
     }
 
     /// An assignment that makes a variable of the innermost block.
-    fn assign_new(&mut self, part: Part) -> Result<(), AllocError>
+    fn assign_new(&mut self, name: &'a [u8], part: Part) -> Result<(), AllocError>
         requires room { self.old.slots + 1 < 2 ^ 32 }
-        ensures { OnOk result (self.new ≡ assigned_new part self.old) }
+        ensures { OnOk result (self.new ≡ assigned_new name.now part self.old) }
     {
         let until = self.innermost();
-        self.declare(part.first as usize, part.end, until)
+        self.declare(name, part.end, until)
     }
 
-    /// An assignment.
-    fn assign(&mut self, source: &Source, tokens: &Tokens, part: Part) -> Result<(), AllocError>
-        requires tokens { InOrder 0 (length source.now.bytes) tokens.now }
+    /// An assignment to this name.
+    fn assign(&mut self, name: &'a [u8], part: Part) -> Result<(), AllocError>
         requires room { self.old.slots + 1 < 2 ^ 32 }
-        ensures { OnOk result (self.new ≡ assigned (latest source.now.bytes tokens.now (text_at source.now.bytes tokens.now part.first) self.old.variables) part self.old) }
+        ensures { OnOk result (self.new ≡ assigned (latest name.now self.old.variables) name.now part self.old) }
     {
-        let name = text_at(source, tokens, part.first as usize);
-        match self.find(source, tokens, name) {
-            None => self.assign_new(part),
+        match self.find(name) {
+            None => self.assign_new(name, part),
             Some(variable) => {
                 if part.first < variable.until {
-                    self.assign_again(variable, part)
+                    self.assign_again(name, variable, part)
                 } else {
-                    self.assign_new(part)
+                    self.assign_new(name, part)
                 }
             }
         }
@@ -190,7 +186,12 @@ impl Scope {
     }
 
     /// A node's first token is passed.
-    pub fn enter(&mut self, source: &Source, tokens: &Tokens, part: Part) -> Result<(), AllocError>
+    pub fn enter(
+        &mut self,
+        source: &'a Source,
+        tokens: &Tokens,
+        part: Part,
+    ) -> Result<(), AllocError>
         requires tokens { InOrder 0 (length source.now.bytes) tokens.now }
         requires room { self.old.slots + 1 < 2 ^ 32 }
         ensures { OnOk result (self.new ≡ entered source.now.bytes tokens.now part self.old) }
@@ -202,15 +203,16 @@ impl Scope {
             }
             Shape::Body | Shape::Block => self.enter_block(part),
             Shape::Assign => {
+                let name = text_at(source, tokens, part.first as usize);
                 self.leave(part.first)?;
-                self.assign(source, tokens, part)
+                self.assign(name, part)
             }
             _ => Ok(()),
         }
     }
 
     /// What a node's name means, behind its first token.
-    pub fn meaning(&self, source: &Source, tokens: &Tokens, part: Part) -> Meaning
+    pub fn meaning(&self, source: &'a Source, tokens: &Tokens, part: Part) -> Meaning
         requires { InOrder 0 (length source.now.bytes) tokens.now }
         ensures { result ≡ meaning_in part.shape source.now.bytes tokens.now part self.now }
     {
@@ -220,7 +222,7 @@ impl Scope {
             _ => return Meaning::Nothing,
         };
         let name = text_at(source, tokens, part.first as usize);
-        let Some(variable) = self.find(source, tokens, name) else {
+        let Some(variable) = self.find(name) else {
             return Meaning::Nothing;
         };
         let slot = variable.slot;
@@ -242,25 +244,4 @@ fn leave_in(blocks: &mut Vec<u32>, at: u32) -> Result<(), AllocError>
         }
     }
     Ok(())
-}
-
-/// The latest variable of this name among these, of which the last is the latest.
-fn find_in(
-    source: &Source,
-    tokens: &Tokens,
-    variables: &[Variable],
-    name: &[u8],
-) -> Option<Variable>
-    requires { InOrder 0 (length source.now.bytes) tokens.now }
-    ensures { result ≡ latest source.now.bytes tokens.now name.now (reverse variables.now) }
-{
-    let mut i = variables.len();
-    while i > 0 {
-        i -= 1;
-        let variable = variables[i];
-        if text_at(source, tokens, variable.token) == name {
-            return Some(variable);
-        }
-    }
-    None
 }
