@@ -1,9 +1,11 @@
 pub mod Scoping
 pub mod Naming
+pub mod Following
 pub mod Names
 pub mod Forest
 pub mod Fitting
 pub mod Within
+pub mod Standing
 pub mod Slots
 pub mod Whole
 pub mod Building

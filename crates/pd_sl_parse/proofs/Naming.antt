@@ -37,7 +37,7 @@ found_by_name q (e ∷ es) = ap (cond (eq_by_cmp (slice_cmp nat_cmp) q e.0.now) 
 pub found : (q : List ℕ) (es : Entries) → lookup (is_at (λ (k : Bor (List ℕ)). slice_cmp nat_cmp q k.now)) es ≡ latest q (variables_of es)
 found q es = sym (maps.get-from_entries nat_list_cmp_total (map named es) q ∙ found_by_name q es)
 
-tested : (k q : List ℕ) → bytes_eq k q ≡ eq_by_cmp (slice_cmp nat_cmp) q k
+pub tested : (k q : List ℕ) → bytes_eq k q ≡ eq_by_cmp (slice_cmp nat_cmp) q k
 tested k q = sym (is_eq-slice_cmp k q) ∙ (eq_by_cmp_equiv nat_list_cmp_total).symm k q
 
 -- the map with a variable at its name

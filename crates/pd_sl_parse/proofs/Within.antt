@@ -22,12 +22,12 @@ some_parameters_grow : (i : ℕ) (xs : List (List ℕ)) → i + length_of xs ≤
 some_parameters_grow i [] = omega arith
 some_parameters_grow i (x ∷ xs) = omega (arith, parameters_grow (i + 1) xs)
 
-body_grows : (i : ℕ) (xs : List (List ℕ)) → i + length_of xs ≤ body_place i xs
+pub body_grows : (i : ℕ) (xs : List (List ℕ)) → i + length_of xs ≤ body_place i xs
 body_grows i xs = omega (arith, some_parameters_grow (((i + 1) + 1) + 1) xs)
 
 -- A tree has a word at least.
 mutual
-  tree_grows : (i : ℕ) (t : Tree) → i + 1 ≤ end_of i t
+  pub tree_grows : (i : ℕ) (t : Tree) → i + 1 ≤ end_of i t
   tree_grows i (name x) = omega arith
   tree_grows i (number n) = omega arith
   tree_grows i (text s) = omega arith
@@ -51,15 +51,15 @@ mutual
   tree_grows i (block ss) = omega (arith, trees_grow (i + 1) ss)
   tree_grows i (function x xs b) = omega (arith, body_grows i xs, tree_grows (body_place i xs) b)
 
-  arguments_grow : (i : ℕ) (es : Trees) → i + count es ≤ arguments_end i es
+  pub arguments_grow : (i : ℕ) (es : Trees) → i + count es ≤ arguments_end i es
   arguments_grow i none = omega arith
   arguments_grow i (also e es) = omega (arith, tree_grows i e, more_arguments_grow (end_of i e) es)
 
-  more_arguments_grow : (i : ℕ) (es : Trees) → i + count es ≤ more_arguments_end i es
+  pub more_arguments_grow : (i : ℕ) (es : Trees) → i + count es ≤ more_arguments_end i es
   more_arguments_grow i none = omega arith
   more_arguments_grow i (also e es) = omega (arith, tree_grows (i + 1) e, more_arguments_grow (end_of (i + 1) e) es)
 
-  trees_grow : (i : ℕ) (ts : Trees) → i + count ts ≤ trees_end i ts
+  pub trees_grow : (i : ℕ) (ts : Trees) → i + count ts ≤ trees_end i ts
   trees_grow i none = omega arith
   trees_grow i (also t ts) = omega (arith, tree_grows i t, trees_grow (end_of i t) ts)
 

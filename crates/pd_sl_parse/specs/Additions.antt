@@ -7,6 +7,7 @@ use Rattle.pd_sections.specs.Positions.{line_at, column_at}
 use Rattle.pd_tree.specs.declared.addition.Addition.{Addition}
 use Rattle.pd_tree.specs.Linked.{names_in}
 use Rattle.pd_tree.specs.declared.kind.Kind.{Kind}
+use Rattle.pd_tree.specs.declared.kind.Meaning.{Meaning}
 use Rattle.pd_tree.specs.declared.kind.Kind.TheVariants.{SlFunction, SlBody, SlBlock, SlIf, SlWhile, SlReturn, SlBreak, SlContinue, SlDebugger, SlOr, SlAnd, SlBinary, SlCall, SlAssign, SlName, SlNumber, SlText}
 use Rattle.pd_turn.specs.declared.Node.{Node}
 use Rattle.pd_sl_read.specs.declared.parts.Part.{Part}
@@ -17,7 +18,8 @@ use Rattle.pd_sl_spell.specs.Words.{Trees}
 use Rattle.pd_sl_spell.specs.Refusals.{Accepts}
 use Rattle.pd_sl_read.specs.Places.{roses}
 use Rattle.pd_sl_read.specs.Tokens.{words_of}
-use Rattle.pd_sl_parse.specs.Scopes.{no_scope, token_at, text_at, Scoped, entered, meaning_in}
+use Rattle.pd_sl_parse.specs.Locals.{meaning_of}
+use Rattle.pd_sl_parse.specs.Scopes.{token_at, text_at, Scoped, meaning_in}
 
 -- from the first token's first byte to the last token's last
 abbrev pub section_of : ℕ → List Token → Part → Section
@@ -59,28 +61,28 @@ KindIs bytes tokens shapes.Name first k = (name : List ℕ) × (k ≡ SlName nam
 KindIs bytes tokens (shapes.Number v) first k = k ≡ SlNumber v
 KindIs bytes tokens shapes.Text first k = (text : List ℕ) × (k ≡ SlText text) × IsText (inner (text_at bytes tokens first)) text
 
--- the addition of a node, where `s` is what its name is looked up in
-pub record IsAdditionOf (bytes : List ℕ) (tokens : List Token) (source : ℕ) (s : Scoped) (node : Node Part) (a : Addition) : Type 0 where
+-- the addition of a node whose name means this
+pub record IsAdditionOf (bytes : List ℕ) (tokens : List Token) (source : ℕ) (meaning : Meaning) (node : Node Part) (a : Addition) : Type 0 where
   pub kind : KindIs bytes tokens node.what.shape node.what.first a.kind
   pub section : a.section ≡ section_of source tokens node.what
   pub line : a.line ≡ line_at bytes (token_at tokens node.what.first).start
   pub column : a.column ≡ column_at bytes (token_at tokens node.what.first).start
-  pub meaning : a.meaning ≡ meaning_in node.what.shape bytes tokens node.what s
+  pub means : a.meaning ≡ meaning
   pub children : a.children ≡ node.parts
   pub constants : a.constants ≡ []
 
--- the additions of nodes in the order of their text
-abbrev pub AreAdditionsOf : List ℕ → List Token → ℕ → Scoped → List (Node Part) → List Addition → Type 0
-AreAdditionsOf bytes tokens source s [] [] = Unit {0}
-AreAdditionsOf bytes tokens source s (x ∷ xs) (a ∷ as') =
-    IsAdditionOf bytes tokens source (entered bytes tokens x.what s) x a × AreAdditionsOf bytes tokens source (entered bytes tokens x.what s) xs as'
-AreAdditionsOf bytes tokens source s _ _ = ⊥
+-- the additions of nodes in the order of their text, behind the earlier ones, of which the latest is the first
+abbrev pub AreAdditionsOf : List ℕ → List Token → ℕ → List Part → List (Node Part) → List Addition → Type 0
+AreAdditionsOf bytes tokens source earlier [] [] = Unit {0}
+AreAdditionsOf bytes tokens source earlier (x ∷ xs) (a ∷ as') =
+    IsAdditionOf bytes tokens source (meaning_of bytes tokens x.what.shape x.what earlier) x a × AreAdditionsOf bytes tokens source (x.what ∷ earlier) xs as'
+AreAdditionsOf bytes tokens source earlier _ _ = ⊥
 
--- a node's addition is the last one
+-- a node's addition is the last one, with what its name means in a scope
 abbrev pub IsAdded : List ℕ → List Token → ℕ → Scoped → Node Part → List Addition → List Addition → Type 0
 IsAdded bytes tokens source s node before after =
-    (a : Addition) × (after ≡ before ++ a ∷ []) × IsAdditionOf bytes tokens source s node a × (length (names_in a.kind) < 2 ^ 32)
+    (a : Addition) × (after ≡ before ++ a ∷ []) × IsAdditionOf bytes tokens source (meaning_in node.what.shape bytes tokens node.what s) node a × (length (names_in a.kind) < 2 ^ 32)
 
 -- the tree of the one program that the tokens spell within the rules
 abbrev pub IsTreeOf : ℕ → List ℕ → List Token → ℕ → List Addition → Type 0
-IsTreeOf room bytes tokens source tree = (T : Trees) × Accepts room (words_of bytes tokens) T × AreAdditionsOf bytes tokens source no_scope (pres (roses 0 T)) tree
+IsTreeOf room bytes tokens source tree = (T : Trees) × Accepts room (words_of bytes tokens) T × AreAdditionsOf bytes tokens source [] (pres (roses 0 T)) tree

@@ -1,3 +1,4 @@
 pub mod Scopes
+pub mod Locals
 pub mod Additions
 pub mod Fits

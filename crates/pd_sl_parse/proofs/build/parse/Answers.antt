@@ -4,7 +4,7 @@ use Rattle.pd_sl_parse.specs.Additions.{IsTreeOf}
 use Rattle.pd_sl_read.proofs.Reading.{few_tokens}
 use Rattle.pd_tree.specs.declared.addition.Addition.{Addition}
 use Rattle.pd_sl_parse.specs.Scopes.{Scoped, no_scope}
-use Rattle.pd_sl_parse.proofs.Building.{Built, built_none, built_more, built_room, built_all, nodes_few, nodes_short}
+use Rattle.pd_sl_parse.proofs.Building.{Built, built_none, built_more, built_room, built_all, nodes_few, nodes_stand, nodes_short}
 use Rattle.pd_sl_parse.proofs.build.parse.Goals as goal
 
 pub add-requires-clause-room : goal.add-requires-clause-room
@@ -24,7 +24,7 @@ loop-node-preserved c =
     let small : length c.args.source.now.bytes ≤ 1048576 = c.bytes.ensures.small in
     let lt : (length c.args.tokens.now + c.loop-node.node-index) + 1 < 2 ^ 32 = omega (arith, c.loop-node-test.true) in
     built_more c.args.source.now.bytes c.args.tokens.now c.args.number (length c.args.tokens.now) c.deref-node-items.result.now c.loop-node.node-index c.loop-node.scope c.add.new.scope c.loop-node.builder c.add.new.builder _
-    c.loop-node-test.true (nodes_short c.args.room c.args.source.now.bytes c.args.tokens.now c.deref-node-items.result.now tree) lt c.loop-node.invariant c.in_ok-add.ensures.scope c.in_ok-add.ensures.added
+    c.loop-node-test.true (nodes_stand c.args.room c.args.source.now.bytes c.args.tokens.now c.deref-node-items.result.now tree) (nodes_short c.args.room c.args.source.now.bytes c.args.tokens.now c.deref-node-items.result.now tree) lt c.loop-node.invariant c.in_ok-add.ensures.scope c.in_ok-add.ensures.added
 
 pub finish-requires : goal.finish-requires
 finish-requires c =
