@@ -8,9 +8,9 @@ pub turns-init : goal.turns-init
 turns-init g c =
     let p = c.args.program.now in record {
       stands =
-        subst (λ es. Stands p c.args.fuel c.args.root es (g.W.Watcher.kept c.args.w.now) c.in_ok-m.m) (sym c.requires.no_events)
-        (subst (λ ks. Stands p c.args.fuel c.args.root [] ks c.in_ok-m.m) (sym c.requires.no_verdicts)
-        (stands_at_first p c.args.fuel c.args.root c.in_ok-m.m c.in_ok-m.ensures.begun c.in_ok-m.ensures.told c.in_ok-m.ensures.fuel));
+          subst (λ es. Stands p c.args.fuel c.args.root es (g.W.Watcher.kept c.args.w.now) c.in_ok-m.m) (sym c.requires.no_events)
+          (subst (λ ks. Stands p c.args.fuel c.args.root [] ks c.in_ok-m.m) (sym c.requires.no_verdicts)
+          (stands_at_first p c.args.fuel c.args.root c.in_ok-m.m c.in_ok-m.ensures.begun c.in_ok-m.ensures.told c.in_ok-m.ensures.fuel));
       fixed = refl;
     }
 
