@@ -9,3 +9,4 @@ pub mod Standing
 pub mod Slots
 pub mod Whole
 pub mod Building
+pub mod Spelling

@@ -1,5 +1,6 @@
--- The variables of an SL function, as its nodes are passed in the order of its text. Places are numbers of tokens.
+-- The variables of an SL function as they are kept while its nodes are passed in the order of its text. Places are numbers of tokens.
 -- A name is a variable from the end of the first assignment to it that has ended, up to the end of the block that it stands in.
+-- The rule in its own words is in Locals; what is kept here gives the same meanings.
 use Rattle.std.specs.Prelude.{ℕ, zero, suc, ◌+◌, ◌*◌, ◌&&◌, if◌then◌else◌, nat_le, nat_lt, List, [], ◌∷◌, map, slice_index_or, Option, Some, None, refl}
 use denote.Ref.{Bor}
 use Rattle.std.specs.Cmp.Lexicographic.{slice_cmp}

@@ -8,6 +8,7 @@ mod texts;
 
 pub use build::parse;
 pub use scope::{Scope, Variable};
+pub use texts::texts_law;
 
 #[cfg(test)]
 mod tests;

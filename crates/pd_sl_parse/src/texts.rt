@@ -1,8 +1,11 @@
 //! Tokens by their numbers, and their texts.
-ghost use Rattle.std.specs.Prelude.{◌≡◌, ◌<◌, ◌≤◌, ◌+◌, length, IfOk};
-ghost use Rattle.pd_sections.specs.Lexing.{InOrder};
+ghost use Rattle.std.specs.Prelude.{◌≡◌, ℕ, ◌<◌, ◌≤◌, ◌+◌, List, length, IfOk};
+ghost use Rattle.std.specs.Str.{IsUtf8};
+ghost use Rattle.pd_sections.specs.Lexing.{InOrder, Splits};
+ghost use Rattle.pd_sections.specs.SlPieces.{sl_piece};
 ghost use Rattle.pd_sl_parse.specs.Additions.{IsText, section_of};
 ghost use Rattle.pd_sl_parse.specs.Scopes.{token_at, text_at};
+ghost use Rattle.pd_sl_parse.specs.Texts.{AllSpelled};
 
 use pd_sections::{Section, Source, Token, TokenKind, Tokens};
 use pd_sl_read::Part;
@@ -70,3 +73,8 @@ pub fn characters(alloc: Global, bytes: &[u8]) -> Result<Text, AllocError>
         Err(_) => Ok(Text::of(String::new(alloc))),
     }
 }
+
+/// In a source whose bytes are UTF-8 so are those of each name, and those of each text between its `"`.
+pub fn texts_law()
+    ensures { (bytes : List ℕ) (tokens : List Token) → IsUtf8 bytes → Splits sl_piece bytes tokens → AllSpelled bytes tokens }
+{}
