@@ -1,2 +1,9 @@
+pub mod Listed
 pub mod Lists
+pub mod Nodes
+pub mod Opens
 pub mod Shapes
+pub mod Steps
+pub mod Variables
+pub mod Whole
+pub mod WellFormed

@@ -1,11 +1,14 @@
 -- The words of linking: what the walk over the nodes keeps, seen as the walk of the definition.
-use Rattle.std.specs.Prelude.{◌≡◌, ℕ, ◌+◌, ◌≤◌, List, [], ◌∷◌, ◌++◌, length, map, reverse}
+use Rattle.std.specs.Prelude.{◌≡◌, ℕ, ◌+◌, ◌<◌, ◌≤◌, List, [], ◌∷◌, ◌++◌, length, map, reverse, Option, None, Some}
 use Rattle.pd_tree.specs.declared.kind.Visible.{Visible}
+use Rattle.pd_tree.specs.declared.kind.Meaning.{Meaning}
+use Rattle.pd_tree.specs.declared.kind.Meaning.TheVariants.{Local, Item as Means, Nothing}
 use Rattle.pd_tree.specs.declared.addition.Addition.{Addition}
 use Rattle.pd_tree.specs.declared.place.Span.{Span}
 use Rattle.pd_link.specs.declared.shape.Shape.{Shape}
 use Rattle.pd_link.specs.declared.walk.Opened.{Opened}
-use Rattle.pd_tree.specs.Linked.{Open, Walk, parts_of, assigned_slots}
+use Rattle.pd_tree.specs.Linked.{Open, Walk, IsWhole, parts_of, assigned_slots, linked}
+use Rattle.pd_tree.specs.WellFormed.{MeansAnItem}
 use Rattle.pd_tree.specs.Kept.{stretch}
 
 -- ---- parts and slots
@@ -39,8 +42,11 @@ abbrev pub open_in : List Visible → Opened → Open
 open_in variables x = record { node = x.node; left = x.left; first = x.first; root = x.root; level = x.level; outside = stretch x.outside variables }
 
 -- open nodes are kept from the outermost inward
+abbrev pub opens_in : List Visible → List Opened → List Open
+opens_in variables opened = reverse (map (open_in variables) opened)
+
 abbrev pub walk_in : List Visible → List Opened → Span → Walk
-walk_in variables opened seen = record { open_nodes = reverse (map (open_in variables) opened); seen = stretch seen variables }
+walk_in variables opened seen = record { open_nodes = opens_in variables opened; seen = stretch seen variables }
 
 abbrev pub AllOpenedIn : List Visible → List Opened → Type 0
 AllOpenedIn variables [] = Unit {0}
@@ -49,3 +55,35 @@ AllOpenedIn variables (x ∷ xs) = IsIn variables x.outside × AllOpenedIn varia
 -- the list only grew at its end
 abbrev pub Grew : {T : Type 0} → List T → List T → Type 0
 Grew {T} old new = (more : List T) × (new ≡ old ++ more)
+
+-- ---- what linking is given
+
+-- the nodes of each source are whole
+abbrev pub AllWhole : List (List Addition) → Type 0
+AllWhole [] = Unit {0}
+AllWhole (t ∷ ts) = IsWhole t × AllWhole ts
+
+-- each name means an item that there is, or a variable, or nothing, with what was found for its node
+abbrev pub AllMean : ℕ → List Addition → List (Option ℕ) → Type 0
+AllMean items (a ∷ rest) (i ∷ found) = MeansAnItem items (linked a.meaning i) × AllMean items rest found
+AllMean items _ _ = Unit {0}
+
+-- what was found are items that there are
+abbrev pub AllFound : ℕ → List (Option ℕ) → Type 0
+AllFound items [] = Unit {0}
+AllFound items (None ∷ found) = AllFound items found
+AllFound items (Some i ∷ found) = (i < items) × AllFound items found
+
+-- before linking no name means an item
+abbrev pub IsUnlinked : Meaning → Type 0
+IsUnlinked (Means i) = ⊥
+IsUnlinked (Local up slot) = Unit {0}
+IsUnlinked Nothing = Unit {0}
+
+abbrev pub AllUnlinked : List Addition → Type 0
+AllUnlinked [] = Unit {0}
+AllUnlinked (a ∷ rest) = IsUnlinked a.meaning × AllUnlinked rest
+
+abbrev pub AllBelow : ℕ → List ℕ → Type 0
+AllBelow items [] = Unit {0}
+AllBelow items (i ∷ is) = (i < items) × AllBelow items is

@@ -1,0 +1,12 @@
+use Rattle.std.proofs.Common.{subst, sym}
+use Rattle.pd_link.specs.Linking.{AllOpenedIn}
+use Rattle.pd_link.proofs.Opens.{opened_in-push, opened_in-front, opened_in-last}
+use Rattle.pd_link.proofs.walk.part_came.Goals as goal
+
+pub returns-in_ok-push-clause-within : goal.returns-in_ok-push-clause-within
+returns-in_ok-push-clause-within c variables h =
+    let rest = c.pop.new.self.items in
+    let last = c.in-Some.last in
+    let old = subst (AllOpenedIn variables) c.in-Some.ensures.items h in
+    subst (AllOpenedIn variables) (sym c.in_ok-push.ensures.items)
+    (opened_in-push variables rest _ (opened_in-front variables rest last old) (opened_in-last variables rest last old))
