@@ -10,3 +10,6 @@ mod shape;
 mod walk;
 
 pub use program::link;
+
+#[cfg(test)]
+mod tests;
