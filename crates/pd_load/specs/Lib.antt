@@ -1,0 +1,4 @@
+pub mod Names
+pub mod Linked
+pub mod Loading
+pub mod Tables

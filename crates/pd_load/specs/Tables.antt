@@ -1,0 +1,48 @@
+-- Tables of names, as the code keeps them.
+use Rattle.std.specs.Prelude.{◌≡◌, ℕ, List, [], ◌∷◌, None, Result, Err, String}
+use Rattle.std.specs.Option.{option_or}
+use Rattle.std.specs.BTreeMap.{get_by_text, BTreeMap}
+use Rattle.pd_sections.specs.declared.Refusal.{Refusal}
+use Rattle.pd_sections.specs.declared.Stop.{Stop}
+use Rattle.pd_sections.specs.declared.Stop.TheVariants.{Refused, Memory}
+use Rattle.pd_plan.specs.declared.plan.Language.{Language}
+use Rattle.pd_plan.specs.declared.plan.SourceSpec.{SourceSpec}
+use Rattle.pd_sections.specs.Written.{Written}
+use Rattle.pd_load.specs.declared.refusal.LoadRefusal.{LoadRefusal}
+use Rattle.pd_load.specs.declared.refusal.LoadCause.TheVariants.{Spelling}
+use Rattle.pd_load.specs.Loading.{IsMisspelled, IsFirstMisspelled, most_nodes}
+use Rattle.pd_load.specs.Names.{Symbol, lookup, Interface}
+
+module _ {Y : Type 0} where
+  -- a name finds in the table the item of the last symbol of that name
+  pub record IsTable (table : BTreeMap (String Y) ℕ) (symbols : List Symbol) : Type 0 where
+    pub finds : (x : List ℕ) → get_by_text table x ≡ lookup x symbols
+
+  -- the new table finds these symbols, and else what the old one does
+  pub record Gains (old new : BTreeMap (String Y) ℕ) (symbols : List Symbol) : Type 0 where
+    pub finds : (x : List ℕ) → get_by_text new x ≡ option_or (lookup x symbols) (get_by_text old x)
+
+  -- a table for each source, which has no main block
+  abbrev pub AreTables : List (BTreeMap (String Y) ℕ) → List Interface → Type 0
+  AreTables [] [] = Unit {0}
+  AreTables (t ∷ ts) (i ∷ is) = IsTable t i.symbols × (i.main ≡ None) × AreTables ts is
+  AreTables _ _ = ⊥
+
+-- ---- what stops the steps of loading, where want of memory may stop each
+
+abbrev pub StopsWith : {T : Type 0} → Result T LoadRefusal → Stop LoadRefusal → Type 0
+StopsWith answer (Refused refusal) = answer ≡ Err refusal
+StopsWith answer Memory = Unit {0}
+
+abbrev pub StopsReading : Language → ℕ → List ℕ → Stop Refusal → Type 0
+StopsReading language room bytes (Refused refusal) = IsMisspelled language room bytes refusal
+StopsReading language room bytes Memory = Unit {0}
+
+abbrev pub StopsSpelling : List SourceSpec → List Written → Stop LoadRefusal → Type 0
+StopsSpelling specs sources (Refused refusal) = IsFirstMisspelled 0 most_nodes specs sources refusal
+StopsSpelling specs sources Memory = Unit {0}
+
+-- what refuses a source of this number
+abbrev pub at_source : ℕ → Stop Refusal → Stop LoadRefusal
+at_source number (Refused breach) = Refused (record { source = number; cause = Spelling breach })
+at_source number Memory = Memory

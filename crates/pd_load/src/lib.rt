@@ -1,0 +1,15 @@
+//! The sources of a plan, read and linked into one program, or the first refusal.
+#![tactic(auto)]
+
+mod exports;
+mod found;
+mod loading;
+mod names;
+mod refusal;
+mod sources;
+
+pub use loading::load;
+pub use refusal::{LoadCause, LoadRefusal};
+
+#[cfg(test)]
+mod tests;
