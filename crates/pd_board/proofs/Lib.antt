@@ -1,0 +1,8 @@
+pub mod BitLemmas
+pub mod ChainLemmas
+pub mod StandLemmas
+pub mod KeptLemmas
+pub mod TellLemmas
+pub mod PlainLemmas
+pub mod TallyLemmas
+pub mod Examples

@@ -1,0 +1,13 @@
+pub mod Bits
+pub mod Chain
+pub mod Answers
+pub mod Standing
+pub mod NodeBits
+pub mod Life
+pub mod Journal
+pub mod Kept
+pub mod Bound
+pub mod Sessions
+pub mod Plain
+pub mod Tally
+pub mod Examples

@@ -1,0 +1,20 @@
+//! What a context needs of the bindings that it delivers to: the trait `Board`, and the board of one thread.
+#![tactic(auto)]
+
+mod answers;
+mod bits;
+mod board;
+mod chain;
+mod journal;
+mod life;
+mod plain;
+mod session;
+#[cfg(test)]
+mod tests;
+
+pub use answers::{
+    ActResult, Attach, BindingTally, Dispose, Drawn, Known, Passed, Sight, State, Toggle,
+};
+pub use board::Board;
+pub use chain::Chain;
+pub use plain::PlainBoard;
