@@ -1,4 +1,5 @@
 pub mod LineLemmas
 pub mod PieceLemmas
-pub mod ProgramLemmas
+pub mod EntryLemmas
+pub mod LoadLemmas
 pub mod ContentLemmas

@@ -1,5 +1,5 @@
 -- What a sink has taken after some pieces.
-use Rattle.std.proofs.Common.{◌≡◌, ◌≤◌, ◌+◌, ◌-◌, ◌∙◌, ℕ, List, [], ◌++◌, length, take, drop, refl, ap, sym, arith, Option, None, Some, append_assoc, inl, inr, ◌⊎◌, Result, Ok, Err, OnErr}
+use Rattle.std.proofs.Common.{◌≡◌, ◌≤◌, ◌+◌, ◌-◌, ◌∙◌, ℕ, List, [], ◌++◌, take, drop, refl, ap, sym, arith, Option, None, Some, append_assoc, inl, inr, Result, Ok, Err, OnErr}
 use Rattle.std.specs.Io.KnownBytes.{append_known}
 use Rattle.std.proofs.lemmas.List.{append-nil, take-take, take_all, length-take}
 use Rattle.std.proofs.Math.Seq.{take-add}

@@ -1,31 +1,37 @@
 -- What the answers of the top call say.
-use Rattle.std.specs.Prelude.{◌≡◌, ◌<◌, ℕ, List, [], ◌∷◌, Option, Some, Bool, true, false, codes, Ok, string_bytes}
+use Rattle.std.specs.Prelude.{◌≡◌, ◌<◌, ℕ, List, [], ◌∷◌, Option, Some, Bool, true, false, slice_index, codes}
 use Rattle.std.specs.Fmt.{decimal}
 use Rattle.pd_values.specs.declared.value.End.{End}
 use Rattle.pd_values.specs.declared.value.End.TheVariants.{Done}
+use Rattle.pd_sections.specs.declared.Rule.{Rule}
+use Rattle.pd_sections.specs.declared.Rule.TheVariants.{BadByte, OpenText, OpenComment, Unexpected, LiteralTooLarge, Undeclared, NotAssignable, NotAProcedure, NotAValue, Doubled, TooDeep, TooManyNodes}
 use Rattle.pd_tree.specs.Program.{Program}
-use Rattle.pd_small.specs.declared.record.Traced.{Traced}
-use Rattle.pd_small.specs.Record.{IsRecord}
+use Rattle.pd_load.specs.declared.refusal.LoadCause.{LoadCause}
+use Rattle.pd_load.specs.declared.refusal.LoadCause.TheVariants.{Spelling, NoSuchItem, DoubledExport, NoSuchEntry, NotUtf8}
+use Rattle.pd_trace.specs.declared.record.Traced.{Traced}
+use Rattle.pd_trace.specs.Record.{IsRecord}
 use Rattle.pd_top.specs.declared.words.WordFault.{WordFault}
 use Rattle.pd_top.specs.declared.words.WordFault.TheVariants.{NoCommand, UnknownCommand, Refused as WordsRefused}
-use Rattle.pd_top.specs.declared.loading.LoadRefusal.{LoadRefusal}
-use Rattle.pd_top.specs.declared.loading.Untraced.{Untraced}
-use Rattle.pd_top.specs.declared.loading.Untraced.TheVariants.{Unreadable as NotRead, Refused as NotLoaded, Memory as NoMemory}
+use Rattle.pd_top.specs.declared.loading.SourceRefusal.{SourceRefusal}
+use Rattle.pd_top.specs.declared.loading.SourceRefusal.TheVariants.{NotBuilt, Load}
+use Rattle.pd_top.specs.declared.tracing.Untraced.{Untraced}
+use Rattle.pd_top.specs.declared.tracing.Untraced.TheVariants.{Unreadable as NotRead, TooLong as IsTooLong, Refused as NotLoaded, Memory as NoMemory}
 use Rattle.pd_top.specs.declared.outcome.Outcome.{Outcome}
-use Rattle.pd_top.specs.declared.outcome.Outcome.TheVariants.{Ran, Usage, Unreadable, SourceRefused, SinkFailed, Memory}
-use Rattle.pd_top.specs.declared.outcome.Unwritten.{Unwritten}
+use Rattle.pd_top.specs.declared.outcome.Outcome.TheVariants.{Ran, Usage, Unreadable, TooLong, SourceRefused, SinkFailed, Memory}
 use Rattle.pd_top.specs.declared.outcome.Unwritten.TheVariants.{Ran as HadRun}
 use Rattle.pd_top.specs.Lines.{joined}
 use Rattle.pd_top.specs.Transcript.{text_of}
-use Rattle.pd_top.specs.Loading.{IsOfGrammar, IsContent, IsOutside, not_built}
+use Rattle.pd_top.specs.Plans.{default_fuel}
+use Rattle.pd_top.specs.Loading.{IsProgramOf, IsContent, IsLong, IsSourceRefused}
 
--- the file holds a source of the grammar, this is the record of its program, and this the text of the record
+-- the file holds a source that is spelled, this is the record of its program's run from the entry of context 0, and this the text of
+-- the record
 pub record IsTraceOf (held : Option (List ℕ → Option (List ℕ))) (file : List ℕ) (traced : Traced) (text : List ℕ) : Type 0 where
   pub bytes : List ℕ
   pub program : Program
   pub content : IsContent held file bytes
-  pub grammar : IsOfGrammar file bytes program
-  pub run : IsRecord program traced
+  pub source : IsProgramOf file bytes program
+  pub run : IsRecord program (slice_index program.entries 0) default_fuel traced
   pub text_is : text ≡ text_of file program traced
 
 -- the file can't be read: the library's faults have risen, and its last one is at this name
@@ -36,7 +42,8 @@ pub record IsFault (before after : ℕ) (last : Option (List ℕ)) (file : List 
 -- why a file isn't traced
 abbrev pub StopsTrace : Option (List ℕ → Option (List ℕ)) → List ℕ → ℕ → ℕ → Option (List ℕ) → Untraced → Type 0
 StopsTrace held file before after last (NotRead name) = (name ≡ file) × IsFault before after last file
-StopsTrace held file before after last (NotLoaded refusal) = (refusal ≡ not_built) × IsOutside held file
+StopsTrace held file before after last (IsTooLong name) = (name ≡ file) × IsLong held file
+StopsTrace held file before after last (NotLoaded refusal) = IsSourceRefused held file refusal
 StopsTrace held file before after last NoMemory = Unit {0}
 
 -- a fact for one answer
@@ -52,7 +59,11 @@ abbrev pub IfUnreadable : Outcome → (List ℕ → Type 0) → Type 0
 IfUnreadable (Unreadable name) P = P name
 IfUnreadable _ P = Unit {0}
 
-abbrev pub IfSourceRefused : Outcome → (LoadRefusal → Type 0) → Type 0
+abbrev pub IfTooLong : Outcome → (List ℕ → Type 0) → Type 0
+IfTooLong (TooLong name) P = P name
+IfTooLong _ P = Unit {0}
+
+abbrev pub IfSourceRefused : Outcome → (SourceRefusal → Type 0) → Type 0
 IfSourceRefused (SourceRefused refusal) P = P refusal
 IfSourceRefused _ P = Unit {0}
 
@@ -72,6 +83,11 @@ is_refused_or_memory (SourceRefused refusal) = true
 is_refused_or_memory Memory = true
 is_refused_or_memory _ = false
 
+abbrev pub is_too_long_or_memory : Outcome → Bool
+is_too_long_or_memory (TooLong name) = true
+is_too_long_or_memory Memory = true
+is_too_long_or_memory _ = false
+
 -- the status of the process
 abbrev pub end_status : End → ℕ
 end_status (Done value) = 0
@@ -81,6 +97,7 @@ abbrev pub status_of : Outcome → ℕ
 status_of (Ran traced) = end_status traced.«end»
 status_of (Usage fault) = 1
 status_of (Unreadable name) = 2
+status_of (TooLong name) = 2
 status_of (SourceRefused refusal) = 4
 status_of (SinkFailed unwritten) = 5
 status_of Memory = 6
@@ -91,10 +108,47 @@ usage_message NoCommand = codes "polydbg: no command"
 usage_message UnknownCommand = codes "polydbg: unknown command"
 usage_message WordsRefused = codes "polydbg: words refused"
 
+abbrev pub rule_name : Rule → List ℕ
+rule_name BadByte = codes "BadByte"
+rule_name OpenText = codes "OpenText"
+rule_name OpenComment = codes "OpenComment"
+rule_name Unexpected = codes "Unexpected"
+rule_name LiteralTooLarge = codes "LiteralTooLarge"
+rule_name Undeclared = codes "Undeclared"
+rule_name NotAssignable = codes "NotAssignable"
+rule_name NotAProcedure = codes "NotAProcedure"
+rule_name NotAValue = codes "NotAValue"
+rule_name Doubled = codes "Doubled"
+rule_name TooDeep = codes "TooDeep"
+rule_name TooManyNodes = codes "TooManyNodes"
+
+-- what a source is refused for, and the byte, or the number of the export or context
+abbrev pub cause_name : LoadCause → List ℕ
+cause_name (Spelling refusal) = rule_name refusal.rule
+cause_name (NoSuchItem number) = codes "NoSuchItem"
+cause_name (DoubledExport number) = codes "DoubledExport"
+cause_name (NoSuchEntry number) = codes "NoSuchEntry"
+cause_name (NotUtf8 at) = codes "NotUtf8"
+
+abbrev pub cause_place : LoadCause → ℕ
+cause_place (Spelling refusal) = refusal.at
+cause_place (NoSuchItem number) = number
+cause_place (DoubledExport number) = number
+cause_place (NoSuchEntry number) = number
+cause_place (NotUtf8 at) = at
+
+abbrev pub refused_message : ℕ → List ℕ → ℕ → List ℕ
+refused_message source name place = joined (codes "polydbg: source " ∷ decimal source ∷ codes " " ∷ name ∷ codes " at " ∷ decimal place ∷ [])
+
+abbrev pub source_message : SourceRefusal → List ℕ
+source_message (NotBuilt source) = refused_message source (codes "NotBuilt") 0
+source_message (Load refusal) = refused_message refusal.source (cause_name refusal.cause) (cause_place refusal.cause)
+
 abbrev pub message_of : Outcome → List ℕ
 message_of (Ran traced) = []
 message_of (Usage fault) = usage_message fault
 message_of (Unreadable name) = joined (codes "polydbg: cannot read " ∷ name ∷ [])
-message_of (SourceRefused refusal) = joined (codes "polydbg: source " ∷ decimal refusal.source ∷ codes " NotBuilt at 0" ∷ [])
+message_of (TooLong name) = joined (codes "polydbg: too long " ∷ name ∷ [])
+message_of (SourceRefused refusal) = source_message refusal
 message_of (SinkFailed unwritten) = codes "polydbg: cannot write"
 message_of Memory = codes "polydbg: out of memory"

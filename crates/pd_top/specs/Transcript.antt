@@ -1,15 +1,18 @@
 -- The text of a traced run: one source, one context at `main`, one observer of statements that its one session attached before the run.
-use Rattle.std.specs.Prelude.{ℕ, List, [], ◌∷◌, length, flat_map, codes, Option, None, Some}
+use Rattle.std.specs.Prelude.{ℕ, List, [], ◌∷◌, length, flat_map, codes}
 use Rattle.std.specs.Fmt.{decimal}
-use Rattle.pd_values.specs.declared.value.Value.{Value}
 use Rattle.pd_values.specs.declared.value.Fault.{Fault}
 use Rattle.pd_values.specs.declared.value.Fault.TheVariants.{Overflow, DivZero, WrongKind, Undefined, Depth, TextLong, OutputLong, CrossType, CrossArity}
 use Rattle.pd_values.specs.declared.value.End.{End}
 use Rattle.pd_values.specs.declared.value.End.TheVariants.{Done, Faulted, Exhausted, Killed}
 use Rattle.pd_values.specs.Operators.{show}
 use Rattle.pd_tree.specs.Program.{Program, node_at, item_names}
-use Rattle.pd_small.specs.declared.record.TraceEntry.{TraceEntry}
-use Rattle.pd_small.specs.declared.record.Traced.{Traced}
+use Rattle.pd_machine.specs.declared.event.Cause.{Cause}
+use Rattle.pd_machine.specs.declared.event.Cause.TheVariants.{Returning, Breaking, Continuing, Faulting, Unwinding}
+use Rattle.pd_machine.specs.declared.event.EventKind.{EventKind}
+use Rattle.pd_machine.specs.declared.event.EventKind.TheVariants.{Enter, Return as Gave, Leave}
+use Rattle.pd_log.specs.declared.Entry.{Entry}
+use Rattle.pd_trace.specs.declared.record.Traced.{Traced}
 use Rattle.pd_top.specs.Lines.{joined, line_end, lines_of}
 
 abbrev pub fault_name : Fault → List ℕ
@@ -34,21 +37,30 @@ end_text names Killed = codes "killed"
 abbrev pub position_text : Program → ℕ → List ℕ
 position_text p n = joined (decimal (node_at p n).source ∷ codes ":" ∷ decimal (node_at p n).line ∷ codes ":" ∷ decimal (node_at p n).column ∷ [])
 
--- an event without a value is an Enter, one with a value a Return
-abbrev pub kind_text : Option Value → List ℕ
-kind_text None = codes "enter"
-kind_text (Some value) = codes "return"
+abbrev pub kind_text : EventKind → List ℕ
+kind_text Enter = codes "enter"
+kind_text (Gave value) = codes "return"
+kind_text (Leave cause) = codes "leave"
 
--- what a Return gave
-abbrev pub detail_text : List (List ℕ) → Option Value → List ℕ
-detail_text names None = []
-detail_text names (Some value) = joined (codes " " ∷ show names value ∷ [])
+-- why an activation ended without a value
+abbrev pub cause_text : Cause → List ℕ
+cause_text Returning = codes "returning"
+cause_text Breaking = codes "breaking"
+cause_text Continuing = codes "continuing"
+cause_text (Faulting fault) = joined (codes "fault " ∷ fault_name fault ∷ [])
+cause_text Unwinding = codes "unwinding"
 
--- an event in the log of context 0: its number, its place, its kind, its node with the position, and what it gave
-abbrev pub entry_text : Program → TraceEntry → List ℕ
+-- what a Return gave, and why a Leave came
+abbrev pub detail_text : List (List ℕ) → EventKind → List ℕ
+detail_text names Enter = []
+detail_text names (Gave value) = joined (codes " " ∷ show names value ∷ [])
+detail_text names (Leave cause) = joined (codes " " ∷ cause_text cause ∷ [])
+
+-- an event in the log: its context, its number, its place, its kind, its node with the position, and its detail
+abbrev pub entry_text : Program → Entry → List ℕ
 entry_text p e = joined (
-    codes "  0 " ∷ decimal e.event ∷ codes " " ∷ decimal e.place ∷ codes " " ∷ kind_text e.value ∷ codes " " ∷ decimal e.node
-    ∷ codes " " ∷ position_text p e.node ∷ detail_text (item_names p) e.value ∷ line_end ∷ [])
+    codes "  " ∷ decimal e.context ∷ codes " " ∷ decimal e.event ∷ codes " " ∷ decimal e.place ∷ codes " " ∷ kind_text e.kind
+    ∷ codes " " ∷ decimal e.node ∷ codes " " ∷ position_text p e.node ∷ detail_text (item_names p) e.kind ∷ line_end ∷ [])
 
 -- a line of the output
 abbrev pub output_text : List ℕ → List ℕ
@@ -66,7 +78,7 @@ abbrev pub session_text : List ℕ
 session_text = joined (codes "session 0 answers 0" ∷ line_end ∷ codes "  before 0 attached" ∷ line_end ∷ [])
 
 -- the binding with its count and its log
-abbrev pub binding_text : Program → List TraceEntry → List ℕ
+abbrev pub binding_text : Program → List Entry → List ℕ
 binding_text p log = joined (
     codes "binding 0 observe count " ∷ decimal (length log) ∷ codes " live" ∷ line_end ∷ flat_map (entry_text p) log ∷ [])
 

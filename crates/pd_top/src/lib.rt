@@ -3,14 +3,17 @@
 
 mod loading;
 mod outcome;
+mod plans;
 #[cfg(test)]
 mod tests;
 mod top;
+mod tracing;
 mod transcript;
 mod words;
 
-pub use loading::{LoadCause, LoadRefusal};
+pub use loading::SourceRefusal;
 pub use outcome::{Outcome, Unwritten};
-pub use pd_small::{TraceEntry, Traced};
+pub use pd_load::{LoadCause, LoadRefusal};
+pub use pd_trace::{Entry, Traced};
 pub use top::run;
 pub use words::WordFault;

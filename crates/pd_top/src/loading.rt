@@ -1,67 +1,41 @@
-//! From a file's name to its traced run.
-ghost use Rattle.std.specs.Prelude.{◌≡◌, ◌≤◌, ◌<◌, ℕ, List, Some, vec_len, take, IfOk, IfErr, IfSome, MatchResult, string_bytes};
-ghost use Rattle.std.specs.Option.{option_map};
-ghost use Rattle.std.specs.Str.{IsAscii};
-ghost use Rattle.pd_tree.specs.Program.{Program};
-ghost use Rattle.pd_top.specs.Loading.{is_pl0_name, IsOfGrammar, StopsLoad};
-ghost use Rattle.pd_small.specs.Linked.{IsSmall};
-ghost use Rattle.pd_small.specs.Record.{IsRecord};
-ghost use Rattle.pd_top.specs.Transcript.{text_of};
-ghost use Rattle.pd_top.specs.Answers.{IsTraceOf, IsFault, StopsTrace};
+//! From a file's bytes to its program.
+ghost use Rattle.std.specs.Prelude.{◌≡◌, ◌<◌, ◌≤◌, false, length, vec_len, IfOk, IfErr};
+ghost use Rattle.std.specs.Str.{IsUtf8};
+ghost use Rattle.pd_top.specs.Loading.{is_pl0_name, IsProgramOf, StopsLoad};
 
-use crate::transcript::transcript;
-use pd_outside::{FetchFault, Gate, Library};
-use pd_sections::{Source, Stop as NoSource};
-use pd_small::{SmallProgram, Traced};
-use pd_values::Text;
+use crate::plans::trace_plan;
+use pd_load::{LoadCause, LoadRefusal, load};
+use pd_sections::{NotUtf8, Source, Stop};
+use pd_tree::Program;
 use std::alloc::{AllocError, Global};
 
-/// Why a source isn't run: what it asks for isn't built yet.
+/// A source that isn't run: one of PL/0, which isn't built yet, by its number; or one that loading refuses.
 #[derive(Clone, Copy, Debug, PartialEq, Eq)]
-pub enum LoadCause {
-    NotBuilt,
+pub enum SourceRefusal {
+    NotBuilt { source: u32 },
+    Load(LoadRefusal),
 }
 
-/// A source that isn't run, by its number, and why.
-#[derive(Clone, Copy, Debug, PartialEq, Eq)]
-pub struct LoadRefusal {
-    pub source: u32,
-    pub cause: LoadCause,
-}
-
-/// Why a file isn't traced.
+/// Why a source has no program.
 #[derive(Drop)]
-pub(crate) enum Untraced {
-    Unreadable(Text),
-    Refused(LoadRefusal),
+pub(crate) enum Unloaded {
+    Refused(SourceRefusal),
     Memory,
 }
 
-impl From<AllocError> for Untraced {
-    ghost use Rattle.pd_top.specs.declared.loading.Untraced.TheVariants.{Memory};
+impl From<AllocError> for Unloaded {
+    ghost use Rattle.std.specs.Prelude.{◌≡◌};
+    ghost use Rattle.pd_top.specs.declared.loading.Unloaded.TheVariants.{Memory};
 
     ghost from_gives = { λ _ e. e ≡ Memory };
 
-    fn from(_e: AllocError) -> Untraced {
-        Untraced::Memory
+    fn from(_e: AllocError) -> Unloaded {
+        Unloaded::Memory
     }
 }
 
-/// The record of a run and the text that tells it.
-#[derive(Drop)]
-pub(crate) struct Told {
-    pub(crate) traced: Traced,
-    pub(crate) text: String,
-}
-
-// The most bytes of a file that are asked for: one more than a source may have.
-const MOST_FETCHED: u32 = 1_048_577;
-
-// The most bytes of a source of the small grammar.
-const MOST_SMALL: usize = 4_096;
-
-// The names of the two items.
-const ITEMS: [&str; 2] = ["println", "main"];
+// The number of the one source.
+const SOURCE: u32 = 0;
 
 fn is_pl0_name(name: &str) -> bool
     ensures { result ≡ is_pl0_name name.now }
@@ -69,86 +43,44 @@ fn is_pl0_name(name: &str) -> bool
     name.ends_with(".pl0")
 }
 
-fn ascii_source(alloc: Global, name: &str, bytes: Vec<u8>) -> Result<Source, AllocError>
-    requires ascii { IsAscii bytes.items }
-    requires small { vec_len bytes ≤ 4096 }
-    ensures { IfOk result (λ source. source.bytes ≡ bytes.items) }
-{
-    match Source::new(alloc, String::from_str(alloc, name)?, bytes) {
-        Ok(source) => Ok(source),
-        Err(NoSource::Memory) => Err(AllocError),
-        Err(NoSource::Refused(_)) => unreachable!(),
-    }
-}
-
-// The program of a source of the small grammar.
-fn program_of(alloc: Global, name: &str, bytes: Vec<u8>) -> Result<SmallProgram, Untraced>
-    ensures program { IfOk result (IsOfGrammar name.now bytes.items) }
+// The source of this name.
+fn source_of(alloc: Global, name: &str, bytes: Vec<u8>) -> Result<Source, Unloaded>
+    requires short { vec_len bytes ≤ 1048576 }
+    ensures source { IfOk result (λ source. source ≡ record { name = name.now; bytes = bytes.items }) }
+    ensures named { IfOk result (λ _. is_pl0_name name.now ≡ false) }
+    ensures utf8 { IfOk result (λ _. IsUtf8 bytes.items) }
     ensures refused { IfErr result (StopsLoad name.now bytes.items) }
 {
-    let refusal = LoadRefusal {
-        source: 0,
-        cause: LoadCause::NotBuilt,
-    };
-    if is_pl0_name(name) || bytes.len() > MOST_SMALL || !bytes.is_ascii() {
-        return Err(Untraced::Refused(refusal));
+    if is_pl0_name(name) {
+        return Err(Unloaded::Refused(SourceRefusal::NotBuilt { source: SOURCE }));
     }
-    let source = ascii_source(alloc, name, bytes)?;
-    match pd_small::read(alloc, &source)? {
-        Some(program) => Ok(program),
-        None => Err(Untraced::Refused(refusal)),
-    }
-}
-
-// The first bytes of the file.
-fn fetched<L: Library>(alloc: Global, name: &str, files: &mut L) -> Result<Vec<u8>, Untraced>
-    ensures content { IfOk result (λ bytes. IfSome (L.held files.old) (λ file.
-        option_map (take 1048577) (file name.now) ≡ Some bytes.items)) }
-    ensures stopped { IfErr result (StopsTrace (L.held files.old) name.now (L.faults files.old) (L.faults files.new) (L.last_fault files.new)) }
-    ensures held { L.held files.new ≡ L.held files.old }
-    ensures count { L.faults files.old ≤ L.faults files.new }
-{
-    match files.fetch(alloc, name, MOST_FETCHED) {
-        Ok(bytes) => Ok(bytes),
-        Err(FetchFault::Memory) => Err(Untraced::Memory),
-        Err(FetchFault::Failed) => {
-            let name = String::from_str(alloc, name)?;
-            Err(Untraced::Unreadable(Text::of(name)))
+    match Source::new(alloc, String::from_str(alloc, name)?, bytes) {
+        Ok(source) => Ok(source),
+        Err(Stop::Memory) => Err(Unloaded::Memory),
+        Err(Stop::Refused(NotUtf8 { at })) => {
+            Err(Unloaded::Refused(SourceRefusal::Load(LoadRefusal {
+                source: SOURCE,
+                cause: LoadCause::NotUtf8 { at },
+            })))
         }
     }
 }
 
-// The run of a program with its text.
-fn run_of<G: Gate>(
-    alloc: Global,
-    name: &str,
-    program: &SmallProgram,
-    gate: &G,
-) -> Result<Told, AllocError>
-    requires { (bytes : List ℕ) × IsSmall bytes program.now }
-    ensures { IfOk result (λ trace. IsRecord program.now trace.traced × (string_bytes trace.text ≡ text_of name.now program.now trace.traced)) }
+/// The program of the source of this name.
+pub(crate) fn program_of(alloc: Global, name: &str, bytes: Vec<u8>) -> Result<Program, Unloaded>
+    requires short { vec_len bytes ≤ 1048576 }
+    ensures program { IfOk result (IsProgramOf name.now bytes.items) }
+    ensures entry { IfOk result (λ program. 0 < length program.entries) }
+    ensures refused { IfErr result (StopsLoad name.now bytes.items) }
 {
-    let traced = pd_small::run(alloc, program, gate)?;
-    let text = transcript(alloc, name, program, &ITEMS, &traced)?;
-    Ok(Told { traced, text })
-}
-
-/// The traced run of the file with this name.
-pub(crate) fn trace<L: Library, G: Gate>(
-    alloc: Global,
-    name: &str,
-    files: &mut L,
-    gate: &G,
-) -> Result<Told, Untraced>
-    ensures traced { IfOk result (λ trace. IsTraceOf (L.held files.old) name.now trace.traced (string_bytes trace.text)) }
-    ensures stopped { IfErr result (StopsTrace (L.held files.old) name.now (L.faults files.old) (L.faults files.new) (L.last_fault files.new)) }
-    ensures held { L.held files.new ≡ L.held files.old }
-    ensures count { L.faults files.old ≤ L.faults files.new }
-{
-    let bytes = fetched(alloc, name, files)?;
-    let program = match program_of(alloc, name, bytes) {
-        Ok(program) => program,
+    let source = match source_of(alloc, name, bytes) {
+        Ok(source) => source,
         Err(why) => return Err(why),
     };
-    Ok(run_of(alloc, name, &program, gate)?)
+    let plan = trace_plan(alloc, name)?;
+    match load(alloc, &[source], &plan) {
+        Ok(program) => Ok(program),
+        Err(Stop::Memory) => Err(Unloaded::Memory),
+        Err(Stop::Refused(refusal)) => Err(Unloaded::Refused(SourceRefusal::Load(refusal))),
+    }
 }

@@ -1,10 +1,12 @@
 //! The answers of the top call.
-ghost use Rattle.std.specs.Prelude.{◌≡◌, IfOk};
-ghost use Rattle.pd_top.specs.Answers.{end_status, usage_message};
+ghost use Rattle.std.specs.Prelude.{◌≡◌, ◌++◌, IfOk, OnOk, string_bytes};
+ghost use Rattle.pd_top.specs.Answers.{end_status, usage_message, rule_name, cause_name, cause_place, refused_message, source_message};
 
-use crate::loading::LoadRefusal;
+use crate::loading::SourceRefusal;
 use crate::words::WordFault;
-use pd_small::Traced;
+use pd_load::LoadCause;
+use pd_sections::Rule;
+use pd_trace::Traced;
 use pd_values::{End, Text};
 use std::alloc::{AllocError, Global};
 
@@ -15,13 +17,14 @@ pub enum Unwritten {
 }
 
 /// What became of a command. `Ran` has the record of a run whose text was written whole; `Usage` says why the words
-/// are no command; `Unreadable` has the name of the file; `SinkFailed` has the answer that was to be given.
+/// are no command; `Unreadable` and `TooLong` have the name of the file; `SinkFailed` has the answer that was to be given.
 #[derive(Drop)]
 pub enum Outcome {
     Ran(Traced),
     Usage(WordFault),
     Unreadable(Text),
-    SourceRefused(LoadRefusal),
+    TooLong(Text),
+    SourceRefused(SourceRefusal),
     SinkFailed(Unwritten),
     Memory,
 }
@@ -45,18 +48,69 @@ fn usage_message(fault: WordFault) -> &'static str
     }
 }
 
+fn rule_name(rule: Rule) -> &'static str
+    ensures { result.now ≡ rule_name rule }
+{
+    match rule {
+        Rule::BadByte => "BadByte",
+        Rule::OpenText => "OpenText",
+        Rule::OpenComment => "OpenComment",
+        Rule::Unexpected => "Unexpected",
+        Rule::LiteralTooLarge => "LiteralTooLarge",
+        Rule::Undeclared => "Undeclared",
+        Rule::NotAssignable => "NotAssignable",
+        Rule::NotAProcedure => "NotAProcedure",
+        Rule::NotAValue => "NotAValue",
+        Rule::Doubled => "Doubled",
+        Rule::TooDeep => "TooDeep",
+        Rule::TooManyNodes => "TooManyNodes",
+    }
+}
+
+// What a source is refused for, and the byte, or the number of the export or context.
+fn cause_words(cause: LoadCause) -> (&'static str, u32)
+    ensures name { result.0.now ≡ cause_name cause }
+    ensures place { result.1 ≡ cause_place cause }
+{
+    match cause {
+        LoadCause::Spelling(refusal) => (rule_name(refusal.rule), refusal.at),
+        LoadCause::NoSuchItem { export } => ("NoSuchItem", export),
+        LoadCause::DoubledExport { export } => ("DoubledExport", export),
+        LoadCause::NoSuchEntry { context } => ("NoSuchEntry", context),
+        LoadCause::NotUtf8 { at } => ("NotUtf8", at),
+    }
+}
+
+fn push_refused(message: &mut String, source: u32, name: &str, place: u32) -> Result<(), AllocError>
+    ensures { OnOk result (string_bytes message.new ≡ string_bytes message.old ++ refused_message source name.now place) }
+{
+    write!(message, "polydbg: source {source} {name} at {place}")
+}
+
+fn push_refusal(message: &mut String, refusal: SourceRefusal) -> Result<(), AllocError>
+    ensures { OnOk result (string_bytes message.new ≡ string_bytes message.old ++ source_message refusal) }
+{
+    match refusal {
+        SourceRefusal::NotBuilt { source } => push_refused(message, source, "NotBuilt", 0),
+        SourceRefusal::Load(refusal) => {
+            let (name, place) = cause_words(refusal.cause);
+            push_refused(message, refusal.source, name, place)
+        }
+    }
+}
+
 impl Outcome {
     ghost use Rattle.pd_top.specs.Answers.{status_of, message_of};
 
     /// The status with which the process ends: 0, or 7 where the run ended otherwise than done; 1 for words that are
-    /// no command, 2 for an unreadable file, 4 for a refused source, 5 for a failed write, 6 for want of memory.
+    /// no command, 2 for a file that is unreadable or too long, 4 for a refused source, 5 for a failed write, 6 for want of memory.
     pub fn status(&self) -> u8
         ensures { result ≡ status_of self.now }
     {
         match self {
             Outcome::Ran(traced) => end_status(&traced.end),
             Outcome::Usage(_) => 1,
-            Outcome::Unreadable(_) => 2,
+            Outcome::Unreadable(_) | Outcome::TooLong(_) => 2,
             Outcome::SourceRefused(_) => 4,
             Outcome::SinkFailed(_) => 5,
             Outcome::Memory => 6,
@@ -74,9 +128,8 @@ impl Outcome {
             Outcome::Unreadable(name) => {
                 write!(message, "polydbg: cannot read {}", name.as_str())?
             }
-            Outcome::SourceRefused(refusal) => {
-                write!(message, "polydbg: source {} NotBuilt at 0", refusal.source)?
-            }
+            Outcome::TooLong(name) => write!(message, "polydbg: too long {}", name.as_str())?,
+            Outcome::SourceRefused(refusal) => push_refusal(&mut message, *refusal)?,
             Outcome::SinkFailed(_) => message.push_str("polydbg: cannot write")?,
             Outcome::Memory => message.push_str("polydbg: out of memory")?,
         }

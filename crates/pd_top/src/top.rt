@@ -1,14 +1,15 @@
 //! The top call.
-ghost use Rattle.std.specs.Prelude.{◌≡◌, ◌≤◌, ◌<◌, ◌↔◌, ℕ, List, Option, Ok, Err, Some, take, IsTrue, IsFalse, OnOk, OnErr, string_bytes};
+ghost use Rattle.std.specs.Prelude.{◌≡◌, ◌≤◌, ◌<◌, ◌↔◌, ℕ, List, Option, Ok, Err, Some, length, take, IsTrue, IsFalse, OnOk, OnErr, string_bytes};
 ghost use Rattle.std.specs.Io.KnownBytes.{append_known};
 ghost use Rattle.pd_tree.specs.Program.{Program};
 ghost use Rattle.pd_top.specs.declared.words.WordFault.{WordFault};
 ghost use Rattle.pd_top.specs.Words.{texts, command_of};
-ghost use Rattle.pd_top.specs.Loading.{IsOfGrammar, IsContent, IsOutside, not_built};
-ghost use Rattle.pd_top.specs.Answers.{IsTraceOf, IsFault, IfRan, IfUnwritten, IfUnreadable, IfSourceRefused, has_written, is_ran_or_memory, is_refused_or_memory};
+ghost use Rattle.pd_top.specs.declared.loading.SourceRefusal.{SourceRefusal};
+ghost use Rattle.pd_top.specs.Loading.{IsProgramOf, IsRefusal, IsLong, IsSourceRefused, most_bytes};
+ghost use Rattle.pd_top.specs.Answers.{IsTraceOf, IsFault, IfRan, IfUnwritten, IfUnreadable, IfTooLong, IfSourceRefused, has_written, is_ran_or_memory, is_too_long_or_memory, is_refused_or_memory};
 
-use crate::loading::{Untraced, trace};
 use crate::outcome::{Outcome, Unwritten};
+use crate::tracing::{Untraced, trace};
 use crate::words::command;
 use pd_outside::{Failed, Gate, Library, Sink};
 use std::alloc::Global;
@@ -60,11 +61,15 @@ pub fn run<R: Threads + Sync, L: Library, K: Sink, G: Gate>(
         (command_of (texts words.now) ≡ Ok name)
         × IsFault (L.faults files.old) (L.faults files.new) (L.last_fault files.new) name) }
 
-    // The file was read, and is no source of the grammar.
+    // The file was read, and has more bytes than a source may have.
+    ensures too_long { IfTooLong result (λ name.
+        (command_of (texts words.now) ≡ Ok name)
+        × IsLong (L.held files.old) name) }
+
+    // The file was read, and this is why its source isn't run.
     ensures refused { IfSourceRefused result (λ refusal. (file : List ℕ)
         × (command_of (texts words.now) ≡ Ok file)
-        × (refusal ≡ not_built)
-        × IsOutside (L.held files.old) file) }
+        × IsSourceRefused (L.held files.old) file refusal) }
 
     // The sink failed, and took some first bytes of the text that was to be written.
     ensures unwritten { IfUnwritten result (λ traced. (file : List ℕ) × (text : List ℕ) × (n : ℕ)
@@ -76,17 +81,23 @@ pub fn run<R: Threads + Sync, L: Library, K: Sink, G: Gate>(
     // Nothing is written at another answer.
     ensures nothing_written { IsFalse (has_written result) → out.new ≡ out.old }
 
-    // Without a fault, a source of the grammar is run, and any other file is refused, unless memory is wanting.
-    ensures runs { (file bytes : List ℕ) (program : Program) (held : List ℕ → Option (List ℕ))
+    // Without a fault a source that nothing refuses is run, one that has no program is refused, and a file that is too
+    // long is told as such, unless memory is wanting.
+    ensures runs { (file bytes : List ℕ) (held : List ℕ → Option (List ℕ))
         → command_of (texts words.now) ≡ Ok file → L.held files.old ≡ Some held → held file ≡ Some bytes
-        → IsOfGrammar file bytes program
+        → length bytes ≤ most_bytes → ((refusal : SourceRefusal) → IsRefusal file bytes refusal → ⊥)
         → L.faults files.new ≡ L.faults files.old → K.faults out.new ≡ K.faults out.old
         → IsTrue (is_ran_or_memory result) }
     ensures refuses { (file bytes : List ℕ) (held : List ℕ → Option (List ℕ))
         → command_of (texts words.now) ≡ Ok file → L.held files.old ≡ Some held → held file ≡ Some bytes
-        → ((program : Program) → IsOfGrammar file bytes program → ⊥)
+        → length bytes ≤ most_bytes → ((program : Program) → IsProgramOf file bytes program → ⊥)
         → L.faults files.new ≡ L.faults files.old
         → IsTrue (is_refused_or_memory result) }
+    ensures measures { (file bytes : List ℕ) (held : List ℕ → Option (List ℕ))
+        → command_of (texts words.now) ≡ Ok file → L.held files.old ≡ Some held → held file ≡ Some bytes
+        → most_bytes < length bytes
+        → L.faults files.new ≡ L.faults files.old
+        → IsTrue (is_too_long_or_memory result) }
 
     // The library keeps what it holds, and no count falls.
     ensures held { L.held files.new ≡ L.held files.old }
@@ -100,6 +111,7 @@ pub fn run<R: Threads + Sync, L: Library, K: Sink, G: Gate>(
     let trace = match trace(alloc, name.as_str(), files, gate) {
         Ok(trace) => trace,
         Err(Untraced::Unreadable(name)) => return Outcome::Unreadable(name),
+        Err(Untraced::TooLong(name)) => return Outcome::TooLong(name),
         Err(Untraced::Refused(refusal)) => return Outcome::SourceRefused(refusal),
         Err(Untraced::Memory) => return Outcome::Memory,
     };

@@ -1,21 +1,21 @@
 //! The text of a traced run.
-ghost use Rattle.std.specs.Prelude.{◌≡◌, ◌<◌, ◌++◌, ◌∷◌, [], ℕ, List, All, map, length, codes, string_bytes, OnOk, IfOk, flat_map};
+ghost use Rattle.std.specs.Prelude.{◌≡◌, ◌<◌, ◌++◌, ◌∷◌, [], ℕ, List, All, length, codes, string_bytes, OnOk, IfOk, flat_map};
 ghost use Rattle.std.specs.Fmt.{decimal};
 ghost use Rattle.pd_values.specs.Operators.{show};
-ghost use Rattle.pd_tree.specs.Program.{Program, node_at, item_names};
+ghost use Rattle.pd_tree.specs.Program.{Program as Linked, item_names};
 ghost use Rattle.pd_top.specs.Lines.{joined, line_end, lines_of};
-ghost use Rattle.pd_top.specs.Transcript.{fault_name, end_text, entry_text, detail_text, kind_text, position_text, output_text, context_text, session_text, binding_text, text_of};
+ghost use Rattle.pd_top.specs.Transcript.{fault_name, cause_text, end_text, entry_text, detail_text, kind_text, position_text, output_text, context_text, session_text, binding_text, text_of};
 
-use pd_small::{SmallProgram, TraceEntry, Traced};
-use pd_values::{End, Fault, NodeId, Value};
+use pd_log::Entry;
+use pd_machine::{Cause, EventKind};
+use pd_trace::Traced;
+use pd_tree::Program;
+use pd_values::{End, Fault, NodeId, Text, Value};
 use std::alloc::{AllocError, Global};
 
-// The number of the one source.
-const SOURCE: u32 = 0;
-
 // A value as it is shown, where `names` are those of the items.
-fn push_value(text: &mut String, names: &[&str], value: &Value) -> Result<(), AllocError>
-    ensures { OnOk result (string_bytes text.new ≡ string_bytes text.old ++ show (map (λ name. name.now) names.now) value.now) }
+fn push_value(text: &mut String, names: &[Text], value: &Value) -> Result<(), AllocError>
+    ensures { OnOk result (string_bytes text.new ≡ string_bytes text.old ++ show names.now value.now) }
 {
     match value {
         Value::Number(n) => write!(text, "{n}"),
@@ -23,7 +23,7 @@ fn push_value(text: &mut String, names: &[&str], value: &Value) -> Result<(), Al
         Value::Text(t) => text.push_str(t.as_str()),
         Value::Null => text.push_str("NULL"),
         Value::Func(i) => match names.get(*i as usize) {
-            Some(name) => text.push_str(name),
+            Some(name) => text.push_str(name.as_str()),
             None => Ok(()),
         },
     }
@@ -45,8 +45,8 @@ fn fault_name(fault: Fault) -> &'static str
     }
 }
 
-fn push_end(text: &mut String, names: &[&str], end: &End) -> Result<(), AllocError>
-    ensures { OnOk result (string_bytes text.new ≡ string_bytes text.old ++ end_text (map (λ name. name.now) names.now) end.now) }
+fn push_end(text: &mut String, names: &[Text], end: &End) -> Result<(), AllocError>
+    ensures { OnOk result (string_bytes text.new ≡ string_bytes text.old ++ end_text names.now end.now) }
 {
     match end {
         End::Done(value) => {
@@ -87,10 +87,10 @@ fn push_output(text: &mut String, output: &str) -> Result<(), AllocError>
 fn push_context(
     text: &mut String,
     name: &str,
-    names: &[&str],
+    names: &[Text],
     traced: &Traced,
 ) -> Result<(), AllocError>
-    ensures { OnOk result ((p : Program) → item_names p ≡ map (λ name. name.now) names.now
+    ensures { OnOk result ((p : Linked) → item_names p ≡ names.now
         → string_bytes text.new ≡ string_bytes text.old ++ context_text name.now p traced.now) }
 {
     writeln!(text, "context 0 {name} main")?;
@@ -101,69 +101,72 @@ fn push_context(
     Ok(())
 }
 
-fn kind_name(value: &Option<Value>) -> &'static str
-    ensures { result.now ≡ kind_text value.now }
+fn kind_name(kind: &EventKind) -> &'static str
+    ensures { result.now ≡ kind_text kind.now }
 {
-    match value {
-        None => "enter",
-        Some(_) => "return",
+    match kind {
+        EventKind::Enter => "enter",
+        EventKind::Return(_) => "return",
+        EventKind::Leave(_) => "leave",
     }
 }
 
-fn push_position(text: &mut String, program: &SmallProgram, node: NodeId) -> Result<(), AllocError>
-    requires node { node < length program.now.nodes }
-    requires source { (node_at program.now node).source ≡ 0 }
+fn push_position(text: &mut String, program: &Program, node: NodeId) -> Result<(), AllocError>
+    requires { node < length program.now.nodes }
     ensures { OnOk result (string_bytes text.new ≡ string_bytes text.old ++ position_text program.now node) }
 {
-    let (source, line, column) = (SOURCE, program.line(node), program.column(node));
-    write!(text, "{source}:{line}:{column}")
+    let section = program.section(node);
+    let (line, column) = (program.line(node), program.column(node));
+    write!(text, "{}:{line}:{column}", section.source)
 }
 
-fn push_detail(text: &mut String, names: &[&str], value: &Option<Value>) -> Result<(), AllocError>
-    ensures { OnOk result (string_bytes text.new ≡ string_bytes text.old ++ detail_text (map (λ name. name.now) names.now) value.now) }
+fn push_cause(text: &mut String, cause: Cause) -> Result<(), AllocError>
+    ensures { OnOk result (string_bytes text.new ≡ string_bytes text.old ++ cause_text cause) }
 {
-    match value {
-        None => Ok(()),
-        Some(value) => {
+    match cause {
+        Cause::Returning => text.push_str("returning"),
+        Cause::Breaking => text.push_str("breaking"),
+        Cause::Continuing => text.push_str("continuing"),
+        Cause::Faulting(fault) => write!(text, "fault {}", fault_name(fault)),
+        Cause::Unwinding => text.push_str("unwinding"),
+    }
+}
+
+fn push_detail(text: &mut String, names: &[Text], kind: &EventKind) -> Result<(), AllocError>
+    ensures { OnOk result (string_bytes text.new ≡ string_bytes text.old ++ detail_text names.now kind.now) }
+{
+    match kind {
+        EventKind::Enter => Ok(()),
+        EventKind::Return(value) => {
             text.push_str(" ")?;
             push_value(text, names, value)
+        }
+        EventKind::Leave(cause) => {
+            text.push_str(" ")?;
+            push_cause(text, *cause)
         }
     }
 }
 
-fn push_entry(
-    text: &mut String,
-    program: &SmallProgram,
-    names: &[&str],
-    entry: &TraceEntry,
-) -> Result<(), AllocError>
-    requires node { entry.now.node < length program.now.nodes }
-    requires source { (node_at program.now entry.now.node).source ≡ 0 }
-    requires names { item_names program.now ≡ map (λ name. name.now) names.now }
+fn push_entry(text: &mut String, program: &Program, entry: &Entry) -> Result<(), AllocError>
+    requires { entry.now.node < length program.now.nodes }
     ensures { OnOk result (string_bytes text.new ≡ string_bytes text.old ++ entry_text program.now entry.now) }
 {
-    let (event, place, node) = (entry.event, entry.place, entry.node);
-    let kind = kind_name(&entry.value);
-    write!(text, "  0 {event} {place} {kind} {} ", node.0)?;
+    let (context, event, place, node) = (entry.context, entry.event, entry.place, entry.node);
+    let kind = kind_name(&entry.kind);
+    write!(text, "  {context} {event} {place} {kind} {} ", node.0)?;
     push_position(text, program, node)?;
-    push_detail(text, names, &entry.value)?;
+    push_detail(text, program.names(), &entry.kind)?;
     text.push_str("\n")?;
     Ok(())
 }
 
-fn push_log(
-    text: &mut String,
-    program: &SmallProgram,
-    names: &[&str],
-    log: &[TraceEntry],
-) -> Result<(), AllocError>
-    requires nodes { All (λ entry. entry.node < length program.now.nodes) log.now }
-    requires sources { (n : ℕ) → (node_at program.now n).source ≡ 0 }
-    requires names { item_names program.now ≡ map (λ name. name.now) names.now }
+fn push_log(text: &mut String, program: &Program, log: &[Entry]) -> Result<(), AllocError>
+    requires { All (λ entry. entry.node < length program.now.nodes) log.now }
     ensures { OnOk result (string_bytes text.new ≡ string_bytes text.old ++ flat_map (entry_text program.now) log.now) }
 {
     for entry in log {
-        push_entry(text, program, names, entry)?;
+        push_entry(text, program, entry)?;
     }
     Ok(())
 }
@@ -172,20 +175,17 @@ fn push_log(
 pub(crate) fn transcript(
     alloc: Global,
     name: &str,
-    program: &SmallProgram,
-    names: &[&str],
+    program: &Program,
     traced: &Traced,
 ) -> Result<String, AllocError>
-    requires nodes { All (λ entry. entry.node < length program.now.nodes) traced.now.log }
-    requires sources { (n : ℕ) → (node_at program.now n).source ≡ 0 }
-    requires names { item_names program.now ≡ map (λ name. name.now) names.now }
+    requires { All (λ entry. entry.node < length program.now.nodes) traced.now.log }
     ensures { IfOk result (λ text. string_bytes text ≡ text_of name.now program.now traced.now) }
 {
     let mut text = String::new(alloc);
-    push_context(&mut text, name, names, traced)?;
+    push_context(&mut text, name, program.names(), traced)?;
     text.push_str("session 0 answers 0\n  before 0 attached\n")?;
     let count = traced.log.as_slice().len();
     writeln!(text, "binding 0 observe count {count} live")?;
-    push_log(&mut text, program, names, traced.log.as_slice())?;
+    push_log(&mut text, program, traced.log.as_slice())?;
     Ok(text)
 }

@@ -5,5 +5,6 @@ mod heard;
 mod record;
 mod recorder;
 
+pub use heard::Heard;
 pub use pd_log::Entry;
 pub use record::{Traced, run};

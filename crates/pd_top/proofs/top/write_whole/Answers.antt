@@ -1,4 +1,4 @@
-use Rattle.std.proofs.Common.{◌≤◌, ◌+◌, length, arith}
+use Rattle.std.proofs.Common.{◌+◌, arith}
 use Rattle.pd_top.proofs.PieceLemmas.{part_taken, whole_taken, on_err}
 use Rattle.pd_top.proofs.top.write_whole.Goals as goal
 

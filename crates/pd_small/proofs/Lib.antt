@@ -1,4 +1,0 @@
-pub mod Example
-pub mod Readings
-pub mod Runs
-pub mod Sizes

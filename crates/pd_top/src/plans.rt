@@ -1,0 +1,66 @@
+//! The plan that `trace` runs.
+ghost use Rattle.std.specs.Prelude.{◌≡◌, [], ◌∷◌, IfOk};
+ghost use Rattle.pd_top.specs.Plans.{statements, trace_plan};
+
+use pd_plan::{BindingSpec, ContextSpec, Filter, Language, Plan, Script, SourceSpec};
+use pd_values::{Items, Tag, Text};
+use std::alloc::{AllocError, Global};
+
+/// The fuel of a context.
+pub(crate) const FUEL: u32 = 1_000_000;
+
+// A list of this one item.
+fn one<T: Drop>(alloc: Global, item: T) -> Result<Items<T>, AllocError>
+    ensures { IfOk result (λ items. items ≡ item ∷ []) }
+{
+    let mut items = Vec::new(alloc);
+    items.push(item)?;
+    Ok(Items::of(items))
+}
+
+fn none<T: Drop>(alloc: Global) -> Items<T>
+    ensures { result ≡ [] }
+{
+    Items::of(Vec::new(alloc))
+}
+
+// All nodes with the tag Statement.
+fn statements(alloc: Global) -> Result<Filter, AllocError>
+    ensures { IfOk result (λ filter. filter ≡ statements) }
+{
+    Ok(Filter {
+        tags: one(alloc, Tag::Statement)?,
+        not_tags: none(alloc),
+        sources: none(alloc),
+        lines: none(alloc),
+        roots: none(alloc),
+    })
+}
+
+/// The plan with one SL source of this name, one context at its `main`, and one observer of statements that the one
+/// session attaches before the run.
+pub(crate) fn trace_plan(alloc: Global, name: &str) -> Result<Plan, AllocError>
+    ensures { IfOk result (λ plan. plan ≡ trace_plan name.now) }
+{
+    let source = SourceSpec {
+        name: Text::of(String::from_str(alloc, name)?),
+        language: Language::Sl,
+    };
+    let context = ContextSpec {
+        source: 0,
+        entry: Text::of(String::from_str(alloc, "main")?),
+        fuel: FUEL,
+    };
+    let session = Script {
+        before: one(alloc, 0)?,
+        actions: none(alloc),
+        answers: none(alloc),
+    };
+    Ok(Plan {
+        sources: one(alloc, source)?,
+        exports: none(alloc),
+        contexts: one(alloc, context)?,
+        bindings: one(alloc, BindingSpec::Observe(statements(alloc)?))?,
+        sessions: one(alloc, session)?,
+    })
+}
