@@ -1,0 +1,6 @@
+pub mod Lists
+pub mod Forest
+pub mod Fitting
+pub mod Slots
+pub mod Whole
+pub mod Building

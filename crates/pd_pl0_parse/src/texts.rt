@@ -1,0 +1,83 @@
+//! Tokens by their numbers, and their texts.
+ghost use Rattle.std.specs.Prelude.{◌≡◌, ◌<◌, ◌≤◌, ◌+◌, length, IfOk};
+ghost use Rattle.pd_sections.specs.Lexing.{InOrder};
+ghost use Rattle.pd_pl0_parse.specs.Additions.{IsText};
+ghost use Rattle.pd_pl0_parse.specs.Texts.{token_at, text_at, length_of, section_of};
+
+use pd_pl0_read::Part;
+use pd_sections::{Section, Source, Token, TokenKind, Tokens};
+use pd_values::Text;
+use std::alloc::{AllocError, Global};
+
+/// What stands for a token behind the last one.
+const NO_TOKEN: Token = Token {
+    kind: TokenKind::Name,
+    start: 0,
+    len: 0,
+};
+
+/// The token with this number, or one of no length at the source's first byte.
+pub fn token_at(source: &Source, tokens: &Tokens, i: usize) -> Token
+    requires { InOrder 0 (length source.now.bytes) tokens.now }
+    ensures token { result ≡ token_at tokens.now i }
+    ensures within { result.start + result.len ≤ length source.now.bytes }
+{
+    let _ = source;
+    if i < tokens.len() as usize {
+        tokens.get(i as u32)
+    } else {
+        NO_TOKEN
+    }
+}
+
+/// The text of the token with this number.
+pub fn text_at<'a>(source: &'a Source, tokens: &Tokens, i: usize) -> &'a [u8]
+    requires { InOrder 0 (length source.now.bytes) tokens.now }
+    ensures { result.now ≡ text_at source.now.bytes tokens.now i }
+{
+    let token = token_at(source, tokens, i);
+    source.text_of(Section {
+        source: 0,
+        start: token.start,
+        len: token.len,
+    })
+}
+
+/// How many bytes there are from the first byte of one token up to the end of the last before another; without a token none.
+fn length_of(source: &Source, tokens: &Tokens, first: u32, end: u32) -> u32
+    requires { InOrder 0 (length source.now.bytes) tokens.now }
+    ensures { result ≡ length_of tokens.now first end }
+{
+    let small = source.bytes().len() as u32;
+    if first >= end {
+        return 0;
+    }
+    let last = token_at(source, tokens, end as usize - 1);
+    let behind = last.start + last.len;
+    prove!(behind <= small);
+    behind.saturating_sub(token_at(source, tokens, first as usize).start)
+}
+
+/// The section of these tokens in the source with this number.
+pub fn section_of(source: &Source, number: u32, tokens: &Tokens, part: Part) -> Section
+    requires { InOrder 0 (length source.now.bytes) tokens.now }
+    ensures section { result ≡ section_of number tokens.now part }
+    ensures within { result.start ≤ length source.now.bytes }
+{
+    let first = token_at(source, tokens, part.first as usize);
+    Section {
+        source: number,
+        start: first.start,
+        len: length_of(source, tokens, part.first, part.end),
+    }
+}
+
+/// The characters of these bytes, which are UTF-8.
+pub fn characters(alloc: Global, bytes: &[u8]) -> Result<Text, AllocError>
+    ensures { IfOk result (λ text. IsText bytes.now text) }
+{
+    match std::str::from_utf8(bytes) {
+        Ok(chars) => Ok(Text::of(String::from_str(alloc, chars)?)),
+        Err(_) => Ok(Text::of(String::new(alloc))),
+    }
+}

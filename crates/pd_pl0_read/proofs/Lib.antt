@@ -1,0 +1,10 @@
+pub mod Maps
+pub mod Digits
+pub mod Grows
+pub mod Follows
+pub mod Stacks
+pub mod Sizes
+pub mod Rules
+pub mod Counts
+pub mod Turns
+pub mod Reading

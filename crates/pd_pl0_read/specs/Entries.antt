@@ -1,0 +1,20 @@
+-- The names of a block in the order of their bytes, each with its latest declaration.
+use Rattle.std.specs.Prelude.{ℕ, List, [], ◌∷◌, Option, Vec}
+use Rattle.std.specs.Ordering.{nat_cmp}
+use Rattle.std.specs.Cmp.Lexicographic.{slice_cmp}
+use Rattle.std.specs.Map.{lookup}
+use Rattle.std.specs.BTreeMap.{insert_entry, is_at}
+use Rattle.pd_pl0_read.specs.declared.names.Declared.{Declared}
+
+abbrev pub Entries : Type 0
+Entries = List (List ℕ × Declared)
+
+abbrev pub named : {A : Type 0} → List (Vec ℕ A × Declared) → Entries
+named [] = []
+named (e ∷ es) = (e.0.items, e.1) ∷ named es
+
+abbrev pub inserted : List ℕ → Declared → Entries → Entries
+inserted x d es = insert_entry (slice_cmp nat_cmp) es x d
+
+abbrev pub entry_at : List ℕ → Entries → Option Declared
+entry_at x es = lookup (is_at (slice_cmp nat_cmp x)) es
