@@ -10,3 +10,5 @@ pub mod Slots
 pub mod Whole
 pub mod Building
 pub mod Spelling
+pub mod Worded
+pub mod Once

@@ -8,7 +8,7 @@ mod texts;
 
 pub use build::parse;
 pub use scope::{Scope, Variable};
-pub use texts::texts_law;
+pub use texts::{one_tree_law, texts_law};
 
 #[cfg(test)]
 mod tests;

@@ -3,7 +3,8 @@ ghost use Rattle.std.specs.Prelude.{◌≡◌, ℕ, ◌<◌, ◌≤◌, ◌+◌,
 ghost use Rattle.std.specs.Str.{IsUtf8};
 ghost use Rattle.pd_sections.specs.Lexing.{InOrder, Splits};
 ghost use Rattle.pd_sections.specs.SlPieces.{sl_piece};
-ghost use Rattle.pd_sl_parse.specs.Additions.{IsText, section_of};
+ghost use Rattle.pd_tree.specs.declared.addition.Addition.{Addition};
+ghost use Rattle.pd_sl_parse.specs.Additions.{IsText, IsTreeOf, section_of};
 ghost use Rattle.pd_sl_parse.specs.Scopes.{token_at, text_at};
 ghost use Rattle.pd_sl_parse.specs.Texts.{AllSpelled};
 
@@ -77,4 +78,9 @@ pub fn characters(alloc: Global, bytes: &[u8]) -> Result<Text, AllocError>
 /// In a source whose bytes are UTF-8 so are those of each name, and those of each text between its `"`.
 pub fn texts_law()
     ensures { (bytes : List ℕ) (tokens : List Token) → IsUtf8 bytes → Splits sl_piece bytes tokens → AllSpelled bytes tokens }
+{}
+
+/// A source whose bytes are UTF-8 has one tree.
+pub fn one_tree_law()
+    ensures { (room : ℕ) (bytes : List ℕ) (tokens : List Token) (source : ℕ) (t u : List Addition) → IsUtf8 bytes → Splits sl_piece bytes tokens → IsTreeOf room bytes tokens source t → IsTreeOf room bytes tokens source u → t ≡ u }
 {}
