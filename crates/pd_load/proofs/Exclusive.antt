@@ -1,11 +1,16 @@
--- Sources that are spelled aren't misspelled.
-use Rattle.std.proofs.Common.{◌≡◌, ℕ, ◌+◌, ◌-◌, List, [], ◌∷◌, length, inl, inr, sym, ap, ◌∙◌, subst, arith}
+-- Sources that are spelled aren't misspelled, and a plan that is loaded isn't refused.
+use Rattle.std.proofs.Common.{◌≡◌, ℕ, ◌+◌, ◌-◌, List, [], ◌∷◌, length, Option, Result, Ok, Err, inl, inr, refl, sym, ap, ◌∙◌, subst, arith}
+use Rattle.std.specs.List.{AllByRecursion}
+use Rattle.std.specs.Str.{IsUtf8}
 use Rattle.pd_sections.specs.declared.Refusal.{Refusal}
 use Rattle.pd_sections.specs.Written.{Written}
 use Rattle.pd_plan.specs.declared.plan.Language.{Language}
 use Rattle.pd_plan.specs.declared.plan.Language.TheVariants.{Sl, Pl0}
 use Rattle.pd_plan.specs.declared.plan.SourceSpec.{SourceSpec}
+use Rattle.pd_plan.specs.declared.plan.Plan.{Plan}
 use Rattle.pd_tree.specs.declared.addition.Addition.{Addition}
+use Rattle.pd_tree.specs.Program.{Program}
+use Rattle.pd_tree.specs.Linked.{program_of}
 use Rattle.pd_turn.specs.Turned.{pres}
 use Rattle.pd_sl_spell.specs.Words.{Word, Trees}
 use Rattle.pd_sl_spell.specs.Refusals as spelling
@@ -14,8 +19,13 @@ use Rattle.pd_sl_read.specs.Places.{roses}
 use Rattle.pd_sl_read.specs.Tokens.{words_of}
 use Rattle.pd_sl_read.specs.Answers as reading
 use Rattle.pd_sl_parse.specs.Additions.{IsTreeOf}
+use Rattle.pd_sl_parse.proofs.Spelling.{all_spelled}
+use Rattle.pd_sl_parse.proofs.Once as once
 use Rattle.pd_load.specs.declared.refusal.LoadRefusal.{LoadRefusal}
-use Rattle.pd_load.specs.Loading.{IsTree, IsMisspelled, AreTrees, IsFirstMisspelled}
+use Rattle.pd_load.specs.Names.{Symbol}
+use Rattle.pd_load.specs.Linked.{interfaces, all_found, and_then, exports_from, entries_from, linked}
+use Rattle.pd_load.specs.Tables.{IsText}
+use Rattle.pd_load.specs.Loading.{most_nodes, IsTree, IsMisspelled, AreTrees, IsFirstMisspelled, AreTreesOf, IsRefused}
 use Rattle.pd_load.proofs.Spelling.{additions_counted}
 
 accepted_not_refused : (room : ℕ) (ws : List Word) (T : Trees) → Accepts room ws T → (rule : spelling.Rule) (place : ℕ) → Refuses room ws rule place → ⊥
@@ -50,3 +60,44 @@ trees_not_misspelled number room (s ∷ specs) (w ∷ sources) (t ∷ trees) h r
 trees_not_misspelled number room (s ∷ specs) (w ∷ sources) (t ∷ trees) h r (inr g) =
     trees_not_misspelled (number + 1) (room - length t) specs sources trees h.1 r
     (subst (λ n. IsFirstMisspelled (number + 1) (room - n) specs sources r) (sym (same_length s.language room number w.bytes t g.0 h.0 g.1)) g.2)
+
+-- a source that is UTF-8 has one tree
+tree_once : (language : Language) (room number : ℕ) (bytes : List ℕ) (t u : List Addition) → IsUtf8 bytes → IsTree language room number bytes t → IsTree language room number bytes u → u ≡ t
+tree_once Pl0 room number bytes t u text h g = absurd h
+tree_once Sl room number bytes t u text h g =
+    let same : g.0 ≡ h.0 = h.1.only g.0 g.1.lexes in
+    once.tree_once room bytes h.0 number u t (all_spelled bytes h.0 text h.1.lexes) (subst (λ tokens. IsTreeOf room bytes tokens number u) same g.2) h.2
+
+trees_once : (number room : ℕ) (specs : List SourceSpec) (sources : List Written) (trees others : List (List Addition)) → AllByRecursion IsText sources → AreTrees number room specs sources trees
+    → AreTrees number room specs sources others → others ≡ trees
+trees_once number room [] [] [] [] texts h g = refl
+trees_once number room [] [] [] (u ∷ others) texts h g = absurd g
+trees_once number room [] [] (t ∷ trees) others texts h g = absurd h
+trees_once number room [] (w ∷ sources) trees others texts h g = absurd h
+trees_once number room (s ∷ specs) [] trees others texts h g = absurd h
+trees_once number room (s ∷ specs) (w ∷ sources) [] others texts h g = absurd h
+trees_once number room (s ∷ specs) (w ∷ sources) (t ∷ trees) [] texts h g = absurd g
+trees_once number room (s ∷ specs) (w ∷ sources) (t ∷ trees) (u ∷ others) texts h g =
+    let one : u ≡ t = tree_once s.language room number w.bytes t u texts.0 h.0 g.0 in
+    let rest : AreTrees (number + 1) (room - length t) specs sources others = subst (λ x. AreTrees (number + 1) (room - length x) specs sources others) one g.1 in
+    let more : others ≡ trees = trees_once (number + 1) (room - length t) specs sources trees others texts.1 h.1 rest in
+    ap (λ x. x ∷ others) one ∙ ap (λ xs. t ∷ xs) more
+
+never_both : (program : Program) (r : LoadRefusal) → ◌≡◌ {A = Result Program LoadRefusal} (Err r) (Ok program) → ⊥
+never_both program r h = cc
+
+pub linked_all : (plan : Plan) (trees : List (List Addition)) (exports : List Symbol) (entries : List ℕ) (found : List (Option ℕ)) (program : Program)
+    → exports_from (interfaces 1 plan.sources trees) 0 [] plan.exports ≡ Ok exports → entries_from (interfaces 1 plan.sources trees) 0 [] plan.contexts ≡ Ok entries
+    → found ≡ all_found exports 1 plan.sources trees → program ≡ program_of trees found entries → linked plan trees ≡ Ok program
+linked_all plan trees exports entries found program h g f p =
+    ap (λ r. and_then r (λ symbols. and_then (entries_from (interfaces 1 plan.sources trees) 0 [] plan.contexts) (λ items. Ok (program_of trees (all_found symbols 1 plan.sources trees) items)))) h
+    ∙ ap (λ r. and_then r (λ items. Ok (program_of trees (all_found exports 1 plan.sources trees) items))) g
+    ∙ ap Ok (ap (λ items. program_of trees items entries) (sym f) ∙ sym p)
+
+pub loaded_not_refused : (plan : Plan) (sources : List Written) (trees : List (List Addition)) (program : Program) → AllByRecursion IsText sources → AreTreesOf plan sources trees
+    → linked plan trees ≡ Ok program → (r : LoadRefusal) → IsRefused plan sources r → ⊥
+loaded_not_refused plan sources trees program texts h l r (inl g) = trees_not_misspelled 0 most_nodes plan.sources sources trees h r g
+loaded_not_refused plan sources trees program texts h l r (inr g) =
+    let one : g.0 ≡ trees = trees_once 0 most_nodes plan.sources sources trees g.0 texts h g.1 in
+    let refused : linked plan trees ≡ Err r = subst (λ ts. linked plan ts ≡ Err r) one g.2 in
+    never_both program r (sym refused ∙ l)

@@ -1,5 +1,6 @@
 -- The trees of the sources, one behind the other, and the room that they leave.
 use Rattle.std.proofs.Common.{◌≡◌, ℕ, suc, ◌+◌, ◌-◌, ◌<◌, ◌≤◌, List, [], ◌∷◌, ◌++◌, length, get_or, drop, inl, inr, refl, sym, ap, subst, arith, length-append, append_assoc, append-nil}
+use Rattle.std.specs.List.{AllByRecursion}
 use Rattle.std.proofs.lemmas.List.{drop_all}
 use Rattle.pd_sections.specs.declared.Token.{Token}
 use Rattle.pd_sections.specs.declared.Refusal.{Refusal}
@@ -21,7 +22,7 @@ use Rattle.pd_sl_parse.specs.Additions.{AreAdditionsOf}
 use Rattle.pd_sl_parse.proofs.Within.{trees_length}
 use Rattle.pd_load.specs.declared.refusal.LoadRefusal.{LoadRefusal}
 use Rattle.pd_load.specs.declared.refusal.LoadCause.TheVariants.{Spelling}
-use Rattle.pd_load.specs.Tables.{StopsReading, StopsSpelling, at_source}
+use Rattle.pd_load.specs.Tables.{IsText, StopsReading, StopsSpelling, at_source}
 use Rattle.pd_load.specs.Loading.{most_nodes, IsTree, IsMisspelled, AreTrees, IsFirstMisspelled}
 use Rattle.pd_load.proofs.Lists.{drop_item, joined_push}
 
@@ -47,17 +48,18 @@ tree_fits language room number bytes tree sl h = sl_tree_fits room number bytes 
 pub record TreesTo (specs : List SourceSpec) (sources : List Written) (k room : ℕ) (trees : List (List Addition)) : Type 0 where
   pub rest : (more : List (List Addition)) → AreTrees k room (drop k specs) (drop k sources) more → AreTrees 0 most_nodes specs sources (trees ++ more)
   pub refused : (r : LoadRefusal) → IsFirstMisspelled k room (drop k specs) (drop k sources) r → IsFirstMisspelled 0 most_nodes specs sources r
+  pub texts : AllByRecursion IsText (drop k sources) → AllByRecursion IsText sources
   pub left : room + length (joined trees) ≡ 65536
   pub counted : length trees ≡ k
 
 module _ (specs : List SourceSpec) (sources : List Written) where
   pub trees_none : TreesTo specs sources 0 65536 []
-  trees_none = record { rest = λ more are. are; refused = λ r h. h; left = refl; counted = refl }
+  trees_none = record { rest = λ more are. are; refused = λ r h. h; texts = λ h. h; left = refl; counted = refl }
 
   module _ (k room : ℕ) (trees : List (List Addition)) (s : SourceSpec) (w : Written) (lt : k < length specs) (is : s ≡ get_or specs k s) (source_lt : k < length sources) (source_is : w ≡ get_or sources k w)
       (seen : TreesTo specs sources k room trees) where
-    pub trees_more : (tree : List Addition) → IsTree s.language room k w.bytes tree → length tree ≤ room → TreesTo specs sources (k + 1) (room - length tree) (trees ++ tree ∷ [])
-    trees_more tree h fits =
+    pub trees_more : (tree : List Addition) → IsTree s.language room k w.bytes tree → length tree ≤ room → IsText w → TreesTo specs sources (k + 1) (room - length tree) (trees ++ tree ∷ [])
+    trees_more tree h fits text =
         let e = drop_item specs k s lt is in
         let f = drop_item sources k w source_lt source_is in
         record {
@@ -68,6 +70,7 @@ module _ (specs : List SourceSpec) (sources : List Written) where
           refused = λ r g.
               seen.refused r
               (subst (λ l. IsFirstMisspelled k room l (drop k sources) r) (sym e) (subst (λ l. IsFirstMisspelled k room (s ∷ drop (k + 1) specs) l r) (sym f) (inr (tree, h, g))));
+          texts = λ more. seen.texts (subst (AllByRecursion IsText) (sym f) (text, more));
           left = omega (arith, joined_push trees tree, seen.left);
           counted = omega (arith, length-append trees (tree ∷ []), seen.counted);
         }
@@ -88,3 +91,6 @@ module _ (specs : List SourceSpec) (sources : List Written) where
   trees_all k room trees le source_le seen =
       subst (AreTrees 0 most_nodes specs sources) (append-nil trees)
       (seen.rest [] (subst (λ l. AreTrees k room l (drop k sources) []) (sym (drop_all k specs le)) (subst (λ l. AreTrees k room [] l []) (sym (drop_all k sources source_le)) tt)))
+
+  pub all_texts : (k room : ℕ) (trees : List (List Addition)) → length sources ≤ k → TreesTo specs sources k room trees → AllByRecursion IsText sources
+  all_texts k room trees le seen = seen.texts (subst (AllByRecursion IsText) (sym (drop_all k sources le)) tt)

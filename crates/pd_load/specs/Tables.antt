@@ -1,6 +1,7 @@
 -- Tables of names, as the code keeps them.
 use Rattle.std.specs.Prelude.{◌≡◌, ℕ, List, [], ◌∷◌, None, Result, Err, String}
 use Rattle.std.specs.Option.{option_or}
+use Rattle.std.specs.Str.{IsUtf8}
 use Rattle.std.specs.BTreeMap.{get_by_text, BTreeMap}
 use Rattle.pd_sections.specs.declared.Refusal.{Refusal}
 use Rattle.pd_sections.specs.declared.Stop.{Stop}
@@ -27,6 +28,10 @@ module _ {Y : Type 0} where
   AreTables [] [] = Unit {0}
   AreTables (t ∷ ts) (i ∷ is) = IsTable t i.symbols × (i.main ≡ None) × AreTables ts is
   AreTables _ _ = ⊥
+
+-- the source's bytes are UTF-8
+abbrev pub IsText : Written → Type 0
+IsText w = IsUtf8 w.bytes
 
 -- ---- what stops the steps of loading, where want of memory may stop each
 

@@ -1,10 +1,11 @@
 //! The trees of the sources.
-ghost use Rattle.std.specs.Prelude.{◌≡◌, ◌≤◌, length, IfOk, IfErr};
+ghost use Rattle.std.specs.Prelude.{◌≡◌, ◌≤◌, length, IfOk, IfErr, OnOk};
 ghost use Rattle.std.specs.List.{AllByRecursion};
+ghost use Rattle.std.specs.Str.{IsUtf8};
 ghost use Rattle.pd_tree.specs.Linked.{joined};
 ghost use Rattle.pd_plan.specs.declared.plan.Language.TheVariants.{Sl};
 ghost use Rattle.pd_load.specs.Loading.{IsTree, AreTrees, IsSl, most_nodes};
-ghost use Rattle.pd_load.specs.Tables.{StopsReading, StopsSpelling, at_source};
+ghost use Rattle.pd_load.specs.Tables.{IsText, StopsReading, StopsSpelling, at_source};
 
 use crate::refusal::{LoadCause, LoadRefusal};
 use pd_plan::{Language, SourceSpec};
@@ -18,8 +19,10 @@ const MOST_NODES: u32 = 65_536;
 fn sl_tree_of(alloc: Global, source: &Source, number: u32, room: u32) -> Result<Tree, Stop<Refusal>>
     requires { room ≤ 65536 }
     ensures spelled { IfOk result (IsTree Sl room number source.now.bytes) }
+    ensures text { IsUtf8 source.now.bytes }
     ensures refused { IfErr result (StopsReading Sl room source.now.bytes) }
 {
+    let _ = source.bytes();
     let tokens = pd_sl_lex::lex(alloc, source)?;
     pd_sl_parse::parse(alloc, source, number, &tokens, room)
 }
@@ -35,6 +38,7 @@ fn tree_of(
     requires language { language ≡ Sl }
     requires few { room ≤ 65536 }
     ensures spelled { IfOk result (IsTree language room number source.now.bytes) }
+    ensures text { IsUtf8 source.now.bytes }
     ensures refused { IfErr result (StopsReading language room source.now.bytes) }
 {
     match language {
@@ -66,6 +70,7 @@ pub fn trees_of(
     requires few { length specs.now ≤ 16 }
     requires languages { AllByRecursion IsSl specs.now }
     ensures spelled { IfOk result (λ trees. AreTrees 0 most_nodes specs.now sources.now trees.items) }
+    ensures texts { OnOk result (AllByRecursion IsText sources.now) }
     ensures counted { IfOk result (λ trees. length trees.items ≡ length specs.now) }
     ensures fits { IfOk result (λ trees. length (joined trees.items) ≤ 65536) }
     ensures refused { IfErr result (StopsSpelling specs.now sources.now) }

@@ -3,7 +3,7 @@ use Rattle.pd_plan.specs.declared.plan.SourceSpec.{SourceSpec}
 use Rattle.pd_load.specs.Loading.{IsTree, IsSl}
 use Rattle.pd_load.specs.Tables.{StopsReading, StopsSpelling}
 use Rattle.pd_load.proofs.Lists.{all_at}
-use Rattle.pd_load.proofs.Spelling.{TreesTo, tree_fits, trees_more, trees_stopped, trees_all}
+use Rattle.pd_load.proofs.Spelling.{TreesTo, tree_fits, trees_more, trees_stopped, trees_all, all_texts}
 use Rattle.pd_load.proofs.sources.trees_of.Goals as goal
 
 pub returns-in-Err-clause-refused : goal.returns-in-Err-clause-refused
@@ -44,9 +44,12 @@ loop-index-preserved c =
     let fits : length c.in-Ok.tree ≤ c.loop-index.room = tree_fits s.result.language c.loop-index.room k w.result.bytes c.in-Ok.tree sl spelled in
     subst (TreesTo c.args.specs.now c.args.sources.now (k + 1) (c.loop-index.room - length c.additions.result.now)) (sym c.in_ok-push.ensures.items)
     (subst (λ l. TreesTo c.args.specs.now c.args.sources.now (k + 1) (c.loop-index.room - length l) (c.loop-index.trees.items ++ c.in-Ok.tree ∷ [])) (sym c.additions.ensures.value)
-    (trees_more c.args.specs.now c.args.sources.now k c.loop-index.room c.loop-index.trees.items s.result w.result lt s.is c.loop-index-test.true w.is c.loop-index.invariant c.in-Ok.tree spelled fits))
+    (trees_more c.args.specs.now c.args.sources.now k c.loop-index.room c.loop-index.trees.items s.result w.result lt s.is c.loop-index-test.true w.is c.loop-index.invariant c.in-Ok.tree spelled fits c.in-Ok.ensures.text))
 
 pub returns-clause-spelled : goal.returns-clause-spelled
 returns-clause-spelled c =
     let le : length c.args.specs.now ≤ c.loop-index.index = omega arith in
     trees_all c.args.specs.now c.args.sources.now c.loop-index.index c.loop-index.room c.loop-index.trees.items le (omega arith) c.loop-index.invariant
+
+pub returns-clause-texts : goal.returns-clause-texts
+returns-clause-texts c = all_texts c.args.specs.now c.args.sources.now c.loop-index.index c.loop-index.room c.loop-index.trees.items (omega arith) c.loop-index.invariant
