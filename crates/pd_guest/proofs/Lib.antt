@@ -1,0 +1,4 @@
+pub mod MeetingLaws
+pub mod PartingLaws
+pub mod KeepingLaws
+pub mod BeginningLaws
