@@ -1,0 +1,10 @@
+pub mod ActLemmas
+pub mod AttachLemmas
+pub mod DrawLemmas
+pub mod FirstLemmas
+pub mod GoneLemmas
+pub mod LoadLemmas
+pub mod MarkLemmas
+pub mod NumberLemmas
+pub mod SwitchLemmas
+pub mod TalkLemmas

@@ -1,0 +1,146 @@
+//! The board that seats share.
+ghost use Rattle.std.specs.Prelude.{◌≡◌, ◌<◌, ◌==◌, map, IfOk};
+ghost use Rattle.std.specs.List.{list_any};
+ghost use Rattle.pd_core.specs.Views.{first_view};
+ghost use Rattle.pd_shared.specs.First.{IsFirst};
+ghost use Rattle.pd_core.specs.Layout.{IsSound, bindings, width};
+
+use crate::journal::Journal;
+use crate::token::{Reads, Token};
+use pd_board::{Chain, Known};
+use pd_core::hub::{Core, Pass};
+use pd_plan::MatchTable;
+use pd_values::{Items, NodeId};
+use std::alloc::{AllocError, Global};
+
+/// The shared words, and the rows of the bindings. It takes no lock, and no call on it waits.
+#[derive(Drop)]
+pub struct SharedBoard {
+    pub(crate) core: Core,
+    pub(crate) table: MatchTable,
+    /// How many row words a node has.
+    pub(crate) row_words: u32,
+    ghost rows: { table.rows ≡ core.layout.rows },
+    ghost sound: { IsSound core.layout },
+    ghost wide: { row_words ≡ width core.layout },
+}
+
+impl SharedBoard {
+    ghost use Rattle.pd_board.specs.Standing.{in_row};
+
+    /// Whether the node stands in the binding's row.
+    pub(crate) fn is_in_row(&self, b: u32, n: u32) -> bool
+        requires { b < bindings self.now.core.layout }
+        ensures { result ≡ in_row self.now.table b n }
+    {
+        let row = &self.table.rows.as_slice()[b as usize];
+        has_node(row.as_slice(), n)
+    }
+}
+
+/// Whether the node stands in the row.
+fn has_node(row: &[NodeId], n: u32) -> bool
+    ensures { result ≡ list_any (λ m. m == n) row.now }
+{
+    for m in row {
+        if m.0 == n {
+            return true;
+        }
+    }
+    false
+}
+
+impl SharedBoard {
+    ghost use Rattle.pd_shared.specs.Sitting.{IsOf};
+
+    /// A board with all words 0, and the first token, which has all shares. Condition: there are at most 4,096 rows,
+    /// each rises, and its nodes are below `nodes`. Answers `AllocError` where memory is wanting.
+    pub fn new(
+        alloc: Global,
+        matches: &MatchTable,
+        nodes: u32,
+        sessions: u32,
+        contexts: u32,
+    ) -> Result<(SharedBoard, Token), AllocError>
+        requires { IsSound (record { nodes = nodes; rows = matches.now.rows; sessions = sessions; contexts = contexts }) }
+        ensures table { IfOk result (λ r. r.0.table ≡ matches.now) }
+        ensures layout { IfOk result (λ r. r.0.core.layout ≡ record { nodes = nodes; rows = matches.now.rows; sessions = sessions; contexts = contexts }) }
+        ensures of { IfOk result (λ r. IsOf r.0.core r.1) }
+        ensures first { IfOk result (λ r. r.1.pass.view ≡ first_view) }
+    {
+        let table = copy_of(alloc, matches)?;
+        let given = matches.rows.as_slice();
+        let rows = numbers_of(alloc, given)?;
+        let count = given.len();
+        let (core, pass) = Core::new(alloc, rows, nodes, sessions, contexts)?;
+        let token = token_of(alloc, pass, count, nodes, sessions)?;
+        let row_words = (count as u32 + 63) / 64;
+        Ok((
+            SharedBoard {
+                core,
+                table,
+                row_words,
+            },
+            token,
+        ))
+    }
+}
+
+/// A second table with the same rows.
+fn copy_of(alloc: Global, table: &MatchTable) -> Result<MatchTable, AllocError>
+    ensures { IfOk result (λ t. t ≡ table.now) }
+{
+    let mut rows = Vec::new(alloc);
+    for row in table.rows.as_slice() {
+        rows.push(Items::of(Vec::from_slice(alloc, row.as_slice())?))?;
+    }
+    let always = Items::of(Vec::from_slice(alloc, table.always.as_slice())?);
+    Ok(MatchTable {
+        rows: Items::of(rows),
+        always,
+    })
+}
+
+/// The same rows, with each node as its number.
+fn numbers_of(alloc: Global, rows: &[Items<NodeId>]) -> Result<Vec<Vec<u32>>, AllocError>
+    ensures { IfOk result (λ v. map (λ r. r.items) v.items ≡ rows.now) }
+{
+    let mut all = Vec::new(alloc);
+    for row in rows {
+        let numbers: Vec<u32> = row.as_slice().iter().map(|n| n.0).collect(alloc)?;
+        all.push(numbers)?;
+    }
+    Ok(all)
+}
+
+/// The first token of a board.
+fn token_of(
+    alloc: Global,
+    pass: Pass,
+    count: usize,
+    nodes: u32,
+    sessions: u32,
+) -> Result<Token, AllocError>
+    ensures { IfOk result (λ t. (t.pass ≡ pass) × IsFirst count nodes sessions t) }
+{
+    let mut known = Vec::new(alloc);
+    known.resize(count, Known::Fresh)?;
+    let mut loads = Vec::new(alloc);
+    loads.resize(nodes as usize, 0)?;
+    let mut reads = Vec::new(alloc);
+    reads.resize(sessions as usize, Reads::new())?;
+    Ok(Token {
+        pass,
+        journal: Journal::new(alloc),
+        known,
+        loads,
+        all_loads: 0,
+        last_node: None,
+        held: Chain::new(),
+        due: Chain::new(),
+        cleared: 0,
+        ended: false,
+        sessions: reads,
+        ends: Reads::new(),
+    })
+}
