@@ -6,7 +6,7 @@ use Rattle.std.proofs.lemmas.List.{take_all, length-take}
 use Rattle.pd_tree.specs.Program.{Program}
 use Rattle.pd_trace.specs.declared.record.Traced.{Traced}
 use Rattle.pd_top.specs.declared.words.WordFault.{WordFault}
-use Rattle.pd_top.specs.declared.loading.SourceRefusal.{SourceRefusal}
+use Rattle.pd_load.specs.declared.refusal.LoadRefusal.{LoadRefusal}
 use Rattle.pd_top.specs.declared.tracing.Untraced.{Untraced}
 use Rattle.pd_top.specs.declared.tracing.Untraced.TheVariants.{Unreadable, TooLong, Refused, Memory}
 use Rattle.pd_top.specs.Loading.{most_bytes, IsContent, IsProgramOf, IsRefusal, IsLong, IsSourceRefused}
@@ -81,13 +81,13 @@ not_long h f file name bytes long is short =
     let many : length long.bytes ≡ length bytes = ap length (same_file h f file name bytes long.bytes long.content is).held_is in
     omega (arith, many, long.long, short)
 
-pub not_refused : (h : Option (List ℕ → Option (List ℕ))) (f : List ℕ → Option (List ℕ)) (file name bytes : List ℕ) (refusal : SourceRefusal)
-    → IsSourceRefused h name refusal → IsFound h f file name bytes → ((r : SourceRefusal) → IsRefusal file bytes r → ⊥) → ⊥
+pub not_refused : (h : Option (List ℕ → Option (List ℕ))) (f : List ℕ → Option (List ℕ)) (file name bytes : List ℕ) (refusal : LoadRefusal)
+    → IsSourceRefused h name refusal → IsFound h f file name bytes → ((r : LoadRefusal) → IsRefusal file bytes r → ⊥) → ⊥
 not_refused h f file name bytes refusal why is accepted =
     let same = same_file h f file name bytes why.bytes why.content is in
     accepted refusal (subst (λ n. IsRefusal n bytes refusal) same.name_is (subst (λ b. IsRefusal name b refusal) same.held_is why.refuses))
 
-pub refused_short : (h : Option (List ℕ → Option (List ℕ))) (f : List ℕ → Option (List ℕ)) (file name bytes : List ℕ) (refusal : SourceRefusal)
+pub refused_short : (h : Option (List ℕ → Option (List ℕ))) (f : List ℕ → Option (List ℕ)) (file name bytes : List ℕ) (refusal : LoadRefusal)
     → IsSourceRefused h name refusal → IsFound h f file name bytes → most_bytes < length bytes → ⊥
 refused_short h f file name bytes refusal why is long =
     let many : length why.bytes ≡ length bytes = ap length (same_file h f file name bytes why.bytes why.content is).held_is in
@@ -114,7 +114,7 @@ at_long h file before after last (TooLong x) name stops is = stops.1
 at_long h file before after last (Refused x) name stops is = cc
 at_long h file before after last Memory name stops is = cc
 
-pub at_refusal : (h : Option (List ℕ → Option (List ℕ))) (file : List ℕ) (before after : ℕ) (last : Option (List ℕ)) (e : Untraced) (refusal : SourceRefusal)
+pub at_refusal : (h : Option (List ℕ → Option (List ℕ))) (file : List ℕ) (before after : ℕ) (last : Option (List ℕ)) (e : Untraced) (refusal : LoadRefusal)
     → StopsTrace h file before after last e → e ≡ Refused refusal → IsSourceRefused h file refusal
 at_refusal h file before after last (Unreadable x) refusal stops is = cc
 at_refusal h file before after last (TooLong x) refusal stops is = cc

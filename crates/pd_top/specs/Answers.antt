@@ -6,14 +6,13 @@ use Rattle.pd_values.specs.declared.value.End.TheVariants.{Done}
 use Rattle.pd_sections.specs.declared.Rule.{Rule}
 use Rattle.pd_sections.specs.declared.Rule.TheVariants.{BadByte, OpenText, OpenComment, Unexpected, LiteralTooLarge, Undeclared, NotAssignable, NotAProcedure, NotAValue, Doubled, TooDeep, TooManyNodes}
 use Rattle.pd_tree.specs.Program.{Program}
+use Rattle.pd_load.specs.declared.refusal.LoadRefusal.{LoadRefusal}
 use Rattle.pd_load.specs.declared.refusal.LoadCause.{LoadCause}
 use Rattle.pd_load.specs.declared.refusal.LoadCause.TheVariants.{Spelling, NoSuchItem, DoubledExport, NoSuchEntry, NotUtf8}
 use Rattle.pd_trace.specs.declared.record.Traced.{Traced}
 use Rattle.pd_trace.specs.Record.{IsRecord}
 use Rattle.pd_top.specs.declared.words.WordFault.{WordFault}
 use Rattle.pd_top.specs.declared.words.WordFault.TheVariants.{NoCommand, UnknownCommand, Refused as WordsRefused}
-use Rattle.pd_top.specs.declared.loading.SourceRefusal.{SourceRefusal}
-use Rattle.pd_top.specs.declared.loading.SourceRefusal.TheVariants.{NotBuilt, Load}
 use Rattle.pd_top.specs.declared.tracing.Untraced.{Untraced}
 use Rattle.pd_top.specs.declared.tracing.Untraced.TheVariants.{Unreadable as NotRead, TooLong as IsTooLong, Refused as NotLoaded, Memory as NoMemory}
 use Rattle.pd_top.specs.declared.outcome.Outcome.{Outcome}
@@ -63,7 +62,7 @@ abbrev pub IfTooLong : Outcome → (List ℕ → Type 0) → Type 0
 IfTooLong (TooLong name) P = P name
 IfTooLong _ P = Unit {0}
 
-abbrev pub IfSourceRefused : Outcome → (SourceRefusal → Type 0) → Type 0
+abbrev pub IfSourceRefused : Outcome → (LoadRefusal → Type 0) → Type 0
 IfSourceRefused (SourceRefused refusal) P = P refusal
 IfSourceRefused _ P = Unit {0}
 
@@ -137,18 +136,15 @@ cause_place (DoubledExport number) = number
 cause_place (NoSuchEntry number) = number
 cause_place (NotUtf8 at) = at
 
-abbrev pub refused_message : ℕ → List ℕ → ℕ → List ℕ
-refused_message source name place = joined (codes "polydbg: source " ∷ decimal source ∷ codes " " ∷ name ∷ codes " at " ∷ decimal place ∷ [])
-
-abbrev pub source_message : SourceRefusal → List ℕ
-source_message (NotBuilt source) = refused_message source (codes "NotBuilt") 0
-source_message (Load refusal) = refused_message refusal.source (cause_name refusal.cause) (cause_place refusal.cause)
+abbrev pub refusal_message : LoadRefusal → List ℕ
+refusal_message refusal = joined (
+    codes "polydbg: source " ∷ decimal refusal.source ∷ codes " " ∷ cause_name refusal.cause ∷ codes " at " ∷ decimal (cause_place refusal.cause) ∷ [])
 
 abbrev pub message_of : Outcome → List ℕ
 message_of (Ran traced) = []
 message_of (Usage fault) = usage_message fault
 message_of (Unreadable name) = joined (codes "polydbg: cannot read " ∷ name ∷ [])
 message_of (TooLong name) = joined (codes "polydbg: too long " ∷ name ∷ [])
-message_of (SourceRefused refusal) = source_message refusal
+message_of (SourceRefused refusal) = refusal_message refusal
 message_of (SinkFailed unwritten) = codes "polydbg: cannot write"
 message_of Memory = codes "polydbg: out of memory"

@@ -11,7 +11,6 @@ mod tracing;
 mod transcript;
 mod words;
 
-pub use loading::SourceRefusal;
 pub use outcome::{Outcome, Unwritten};
 pub use pd_load::{LoadCause, LoadRefusal};
 pub use pd_trace::{Entry, Traced};

@@ -1,10 +1,9 @@
 //! The answers of the top call.
 ghost use Rattle.std.specs.Prelude.{◌≡◌, ◌++◌, IfOk, OnOk, string_bytes};
-ghost use Rattle.pd_top.specs.Answers.{end_status, usage_message, rule_name, cause_name, cause_place, refused_message, source_message};
+ghost use Rattle.pd_top.specs.Answers.{end_status, usage_message, rule_name, cause_name, cause_place, refusal_message};
 
-use crate::loading::SourceRefusal;
 use crate::words::WordFault;
-use pd_load::LoadCause;
+use pd_load::{LoadCause, LoadRefusal};
 use pd_sections::Rule;
 use pd_trace::Traced;
 use pd_values::{End, Text};
@@ -24,7 +23,7 @@ pub enum Outcome {
     Usage(WordFault),
     Unreadable(Text),
     TooLong(Text),
-    SourceRefused(SourceRefusal),
+    SourceRefused(LoadRefusal),
     SinkFailed(Unwritten),
     Memory,
 }
@@ -81,22 +80,12 @@ fn cause_words(cause: LoadCause) -> (&'static str, u32)
     }
 }
 
-fn push_refused(message: &mut String, source: u32, name: &str, place: u32) -> Result<(), AllocError>
-    ensures { OnOk result (string_bytes message.new ≡ string_bytes message.old ++ refused_message source name.now place) }
+fn push_refusal(message: &mut String, refusal: LoadRefusal) -> Result<(), AllocError>
+    ensures { OnOk result (string_bytes message.new ≡ string_bytes message.old ++ refusal_message refusal) }
 {
+    let source = refusal.source;
+    let (name, place) = cause_words(refusal.cause);
     write!(message, "polydbg: source {source} {name} at {place}")
-}
-
-fn push_refusal(message: &mut String, refusal: SourceRefusal) -> Result<(), AllocError>
-    ensures { OnOk result (string_bytes message.new ≡ string_bytes message.old ++ source_message refusal) }
-{
-    match refusal {
-        SourceRefusal::NotBuilt { source } => push_refused(message, source, "NotBuilt", 0),
-        SourceRefusal::Load(refusal) => {
-            let (name, place) = cause_words(refusal.cause);
-            push_refused(message, refusal.source, name, place)
-        }
-    }
 }
 
 impl Outcome {

@@ -1,6 +1,6 @@
 //! The plan that `trace` runs.
 ghost use Rattle.std.specs.Prelude.{◌≡◌, [], ◌∷◌, IfOk};
-ghost use Rattle.pd_top.specs.Plans.{statements, trace_plan};
+ghost use Rattle.pd_top.specs.Plans.{is_pl0_name, language_of, statements, trace_plan};
 
 use pd_plan::{BindingSpec, ContextSpec, Filter, Language, Plan, Script, SourceSpec};
 use pd_values::{Items, Tag, Text};
@@ -37,14 +37,31 @@ fn statements(alloc: Global) -> Result<Filter, AllocError>
     })
 }
 
-/// The plan with one SL source of this name, one context at its `main`, and one observer of statements that the one
+fn is_pl0_name(name: &str) -> bool
+    ensures { result ≡ is_pl0_name name.now }
+{
+    name.ends_with(".pl0")
+}
+
+// The language of a source, by the end of its name.
+fn language_of(name: &str) -> Language
+    ensures { result ≡ language_of name.now }
+{
+    if is_pl0_name(name) {
+        Language::Pl0
+    } else {
+        Language::Sl
+    }
+}
+
+/// The plan with the one source of this name, one context at its `main`, and one observer of statements that the one
 /// session attaches before the run.
 pub(crate) fn trace_plan(alloc: Global, name: &str) -> Result<Plan, AllocError>
     ensures { IfOk result (λ plan. plan ≡ trace_plan name.now) }
 {
     let source = SourceSpec {
         name: Text::of(String::from_str(alloc, name)?),
-        language: Language::Sl,
+        language: language_of(name),
     };
     let context = ContextSpec {
         source: 0,

@@ -39,6 +39,20 @@ binding 0 observe count 2 live
   0 5 1 leave 2 0:1:19 returning
 ";
 
+const HALF: &[u8] = b"var x; begin x := 7; ! x / 2 end.";
+
+const HALF_TEXT: &str = "context 0 main.pl0 main
+| 3
+end done 7 fuel 9
+session 0 answers 0
+  before 0 attached
+binding 0 observe count 4 live
+  0 2 0 enter 3 0:1:14
+  0 5 1 return 3 0:1:14 NULL
+  0 6 2 enter 5 0:1:22
+  0 13 3 return 5 0:1:22 NULL
+";
+
 fn strings(alloc: Global, words: &[&str]) -> Result<Vec<String>, AllocError> {
     let mut all = Vec::new(alloc);
     for word in words {
@@ -89,7 +103,7 @@ fn words_are_answered(rt: HostRuntime) -> Result<(), Fail> {
         (
             &["trace", "main.pl0"],
             4,
-            "polydbg: source 0 NotBuilt at 0",
+            "polydbg: source 0 BadByte at 16",
             "",
         ),
     ];
@@ -157,6 +171,25 @@ fn sources_are_answered(rt: HostRuntime) -> Result<(), Fail> {
             &["trace", "main.sl"],
             blanks.as_slice(),
             (status, message, ""),
+        )?;
+    }
+    Ok(())
+}
+
+#[test]
+fn pl0_sources_are_answered(rt: HostRuntime) -> Result<(), Fail> {
+    let cases: [(&[u8], u8, &str, &str); 3] = [
+        (HALF, 0, "", HALF_TEXT),
+        (b"y := 1.", 4, "polydbg: source 0 Undeclared at 0", ""),
+        (b"! \xff.", 4, "polydbg: source 0 NotUtf8 at 2", ""),
+    ];
+    for (source, status, message, text) in cases {
+        check(
+            &rt,
+            rt.alloc(),
+            &["trace", "main.pl0"],
+            source,
+            (status, message, text),
         )?;
     }
     Ok(())

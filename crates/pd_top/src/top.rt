@@ -4,7 +4,7 @@ ghost use Rattle.std.specs.Io.KnownBytes.{append_known};
 ghost use Rattle.pd_tree.specs.Program.{Program};
 ghost use Rattle.pd_top.specs.declared.words.WordFault.{WordFault};
 ghost use Rattle.pd_top.specs.Words.{texts, command_of};
-ghost use Rattle.pd_top.specs.declared.loading.SourceRefusal.{SourceRefusal};
+ghost use Rattle.pd_load.specs.declared.refusal.LoadRefusal.{LoadRefusal};
 ghost use Rattle.pd_top.specs.Loading.{IsProgramOf, IsRefusal, IsLong, IsSourceRefused, most_bytes};
 ghost use Rattle.pd_top.specs.Answers.{IsTraceOf, IsFault, IfRan, IfUnwritten, IfUnreadable, IfTooLong, IfSourceRefused, has_written, is_ran_or_memory, is_too_long_or_memory, is_refused_or_memory};
 
@@ -85,7 +85,7 @@ pub fn run<R: Threads + Sync, L: Library, K: Sink, G: Gate>(
     // long is told as such, unless memory is wanting.
     ensures runs { (file bytes : List ℕ) (held : List ℕ → Option (List ℕ))
         → command_of (texts words.now) ≡ Ok file → L.held files.old ≡ Some held → held file ≡ Some bytes
-        → length bytes ≤ most_bytes → ((refusal : SourceRefusal) → IsRefusal file bytes refusal → ⊥)
+        → length bytes ≤ most_bytes → ((refusal : LoadRefusal) → IsRefusal file bytes refusal → ⊥)
         → L.faults files.new ≡ L.faults files.old → K.faults out.new ≡ K.faults out.old
         → IsTrue (is_ran_or_memory result) }
     ensures refuses { (file bytes : List ℕ) (held : List ℕ → Option (List ℕ))

@@ -5,11 +5,12 @@ ghost use Rattle.pd_top.specs.Loading.{IsContent};
 ghost use Rattle.pd_top.specs.Transcript.{text_of};
 ghost use Rattle.pd_top.specs.Answers.{IsTraceOf, StopsTrace};
 
-use crate::loading::{SourceRefusal, Unloaded, program_of};
+use crate::loading::program_of;
 use crate::plans::FUEL;
 use crate::transcript::transcript;
+use pd_load::LoadRefusal;
 use pd_outside::{FetchFault, Gate, Library};
-use pd_sections::MOST_BYTES;
+use pd_sections::{MOST_BYTES, Stop};
 use pd_trace::Traced;
 use pd_tree::Program;
 use pd_values::Text;
@@ -20,7 +21,7 @@ use std::alloc::{AllocError, Global};
 pub(crate) enum Untraced {
     Unreadable(Text),
     TooLong(Text),
-    Refused(SourceRefusal),
+    Refused(LoadRefusal),
     Memory,
 }
 
@@ -101,7 +102,7 @@ pub(crate) fn trace<L: Library, G: Gate>(
     let bytes = fetched(alloc, name, files)?;
     match program_of(alloc, name, bytes) {
         Ok(program) => Ok(run_of(alloc, name, &program, gate)?),
-        Err(Unloaded::Refused(refusal)) => Err(Untraced::Refused(refusal)),
-        Err(Unloaded::Memory) => Err(Untraced::Memory),
+        Err(Stop::Refused(refusal)) => Err(Untraced::Refused(refusal)),
+        Err(Stop::Memory) => Err(Untraced::Memory),
     }
 }
