@@ -1,18 +1,17 @@
 -- What loading hands to linking: as many items as nodes, and each an item that there is.
-use Rattle.std.proofs.Common.{◌≡◌, ℕ, zero, suc, ◌+◌, ◌<◌, ◌≤◌, Bool, true, false, cond, List, [], ◌∷◌, ◌++◌, length, Option, Some, None, Result, Ok, Err, refl, sym, ap, ◌∙◌, subst, arith, length-append, is_some}
+use Rattle.std.proofs.Common.{◌≡◌, ℕ, zero, suc, ◌+◌, ◌<◌, ◌≤◌, Bool, true, false, cond, List, [], ◌∷◌, ◌++◌, length, Option, Some, None, Result, Ok, Err, refl, sym, ap, subst, arith, length-append, is_some}
 use Rattle.std.specs.Prelude.{if◌then◌else◌, bytes_eq, codes}
 use Rattle.std.specs.Option.{option_or, ok_or}
-use Rattle.std.specs.List.{AllByRecursion}
 use Rattle.pd_sections.specs.declared.Token.{Token}
 use Rattle.pd_sections.specs.Written.{Written}
 use Rattle.pd_plan.specs.declared.plan.Language.{Language}
-use Rattle.pd_plan.specs.declared.plan.Language.TheVariants.{Sl}
+use Rattle.pd_plan.specs.declared.plan.Language.TheVariants.{Sl, Pl0}
 use Rattle.pd_plan.specs.declared.plan.SourceSpec.{SourceSpec}
 use Rattle.pd_plan.specs.declared.plan.ExportSpec.{ExportSpec}
 use Rattle.pd_plan.specs.declared.plan.ContextSpec.{ContextSpec}
 use Rattle.pd_tree.specs.declared.addition.Addition.{Addition}
 use Rattle.pd_tree.specs.declared.kind.Kind.{Kind}
-use Rattle.pd_tree.specs.declared.kind.Kind.TheVariants.{SlFunction, SlName}
+use Rattle.pd_tree.specs.declared.kind.Kind.TheVariants.{SlFunction, SlName, PlProcedure, PlCall}
 use Rattle.pd_tree.specs.declared.kind.Meaning.{Meaning}
 use Rattle.pd_tree.specs.declared.kind.Meaning.TheVariants.{Nothing}
 use Rattle.pd_tree.specs.Kinds.{is_root, root_name_of}
@@ -26,12 +25,14 @@ use Rattle.pd_sl_read.specs.Places.{roses}
 use Rattle.pd_sl_parse.specs.Scopes.{text_at}
 use Rattle.pd_sl_parse.specs.Locals.{local, is_local, slot_of, meaning_of}
 use Rattle.pd_sl_parse.specs.Additions.{AreAdditionsOf}
+use Rattle.pd_pl0_read.specs.Tokens as pl0
 use Rattle.pd_link.specs.Linking.{AllFound, IsUnlinked, AllUnlinked, AllBelow}
 use Rattle.pd_load.specs.declared.refusal.LoadRefusal.{LoadRefusal}
 use Rattle.pd_load.specs.declared.refusal.LoadCause.TheVariants.{NoSuchItem, DoubledExport, NoSuchEntry}
-use Rattle.pd_load.specs.Names.{Symbol, lookup, next_item, item_behind, function_symbol, functions, sl_item, sl_found, sl_all_found, Interface, interface_of, found_in, entry_named, entry_in}
+use Rattle.pd_load.specs.Names.{Symbol, lookup, next_item, item_behind, function_symbol, functions, sl_item, sl_found, sl_all_found, Unfinished, Scope, no_scope, declared, part_came, ended, passed, pl0_found, pl0_all_found, procedure_symbol, procedures, Interface, interface_of, found_in, entry_named, entry_in}
 use Rattle.pd_load.specs.Linked.{interfaces, interface_at, all_found, and_then, exported_item, exports_from, entry_item, entries_from}
-use Rattle.pd_load.specs.Loading.{IsTree, AreTrees, IsSl}
+use Rattle.pd_load.specs.Loading.{IsTree, AreTrees}
+use Rattle.pd_load.proofs.Unlinked.{BeginsWithItem, main_first, pl0_unlinked}
 
 -- ---- how many items there are
 
@@ -94,16 +95,43 @@ functions_below n item [] le = tt
 functions_below n item (a ∷ rest) le =
     function_below n a.kind item (functions (next_item a.kind item) rest) (omega (arith, behind_grows (next_item a.kind item) rest)) (functions_below n (next_item a.kind item) rest le)
 
+symbol_below : (n : ℕ) (kind : Kind) (item : ℕ) (us : List Unfinished) (later : List Symbol) → next_item kind item ≤ n → SymbolsBelow n later → SymbolsBelow n (procedure_symbol kind item us later)
+symbol_below n (PlProcedure name variables) item [] later le h = h
+symbol_below n (PlProcedure name variables) item (u ∷ []) later le h = (omega arith, h)
+symbol_below n (PlProcedure name variables) item (u ∷ v ∷ us) later le h = h
+symbol_below n _ item us later le h = h
+
+procedures_below : (n item : ℕ) (s : Scope) (tree : List Addition) → item_behind item tree ≤ n → SymbolsBelow n (procedures item s tree)
+procedures_below n item s [] le = tt
+procedures_below n item s (a ∷ rest) le =
+    symbol_below n a.kind item s.unfinished (procedures (next_item a.kind item) (passed item s a) rest) (omega (arith, behind_grows (next_item a.kind item) rest))
+    (procedures_below n (next_item a.kind item) (passed item s a) rest le)
+
 -- ---- interfaces
+
+-- a PL/0 source begins with its main block
+abbrev pub HasMain : Language → List Addition → Type 0
+HasMain Sl tree = Unit {0}
+HasMain Pl0 tree = BeginsWithItem tree
+
+abbrev pub AllMain : List SourceSpec → List (List Addition) → Type 0
+AllMain (s ∷ specs) (t ∷ trees) = HasMain s.language t × AllMain specs trees
+AllMain _ _ = Unit {0}
+
+main_below : (n item : ℕ) (tree : List Addition) → BeginsWithItem tree → item_behind item tree ≤ n → item < n
+main_below n item [] main le = absurd main
+main_below n item (a ∷ rest) main le =
+    let next : next_item a.kind item ≡ item + 1 = ap (λ b. cond b (item + 1) item) main in
+    omega (arith, behind_grows (next_item a.kind item) rest, next)
 
 abbrev pub InterfacesBelow : ℕ → List Interface → Type 0
 InterfacesBelow n [] = Unit {0}
-InterfacesBelow n (i ∷ all) = SymbolsBelow n i.symbols × (i.main ≡ None) × InterfacesBelow n all
+InterfacesBelow n (i ∷ all) = SymbolsBelow n i.symbols × IsBelow n i.main × InterfacesBelow n all
 
-sl_interface : (n item : ℕ) (language : Language) (tree : List Addition) → language ≡ Sl → item_behind item tree ≤ n
-    → SymbolsBelow n (interface_of language item tree).symbols × ((interface_of language item tree).main ≡ None)
-sl_interface n item language tree sl le =
-    subst (λ l. SymbolsBelow n (interface_of l item tree).symbols × ((interface_of l item tree).main ≡ None)) (sym sl) (functions_below n item tree le, refl)
+one_interface : (n item : ℕ) (language : Language) (tree : List Addition) → HasMain language tree → item_behind item tree ≤ n
+    → SymbolsBelow n (interface_of language item tree).symbols × IsBelow n (interface_of language item tree).main
+one_interface n item Sl tree main le = (functions_below n item tree le, tt)
+one_interface n item Pl0 tree main le = (procedures_below n item no_scope tree le, main_below n item tree main le)
 
 first_within : (n item : ℕ) (t : List Addition) (ts : List (List Addition)) → item_behind item (joined (t ∷ ts)) ≤ n → item_behind item t ≤ n
 first_within n item t ts le = omega (arith, behind_append item t (joined ts), behind_grows (item_behind item t) (joined ts))
@@ -111,16 +139,16 @@ first_within n item t ts le = omega (arith, behind_append item t (joined ts), be
 rest_within : (n item : ℕ) (t : List Addition) (ts : List (List Addition)) → item_behind item (joined (t ∷ ts)) ≤ n → item_behind (item_behind item t) (joined ts) ≤ n
 rest_within n item t ts le = omega (arith, behind_append item t (joined ts))
 
-pub interfaces_below : (n item : ℕ) (specs : List SourceSpec) (trees : List (List Addition)) → AllByRecursion IsSl specs → item_behind item (joined trees) ≤ n
+pub interfaces_below : (n item : ℕ) (specs : List SourceSpec) (trees : List (List Addition)) → AllMain specs trees → item_behind item (joined trees) ≤ n
     → InterfacesBelow n (interfaces item specs trees)
-interfaces_below n item [] trees sl le = tt
-interfaces_below n item (s ∷ specs) [] sl le = tt
-interfaces_below n item (s ∷ specs) (t ∷ trees) sl le =
-    let i = sl_interface n item s.language t sl.0 (first_within n item t trees le) in
-    (i.0, i.1, interfaces_below n (item_behind item t) specs trees sl.1 (rest_within n item t trees le))
+interfaces_below n item [] trees main le = tt
+interfaces_below n item (s ∷ specs) [] main le = tt
+interfaces_below n item (s ∷ specs) (t ∷ trees) main le =
+    let i = one_interface n item s.language t main.0 (first_within n item t trees le) in
+    (i.0, i.1, interfaces_below n (item_behind item t) specs trees main.1 (rest_within n item t trees le))
 
-interface_below : (n : ℕ) (all : List Interface) (k : ℕ) → InterfacesBelow n all → SymbolsBelow n (interface_at all k).symbols × ((interface_at all k).main ≡ None)
-interface_below n [] k h = (tt, refl)
+interface_below : (n : ℕ) (all : List Interface) (k : ℕ) → InterfacesBelow n all → SymbolsBelow n (interface_at all k).symbols × IsBelow n (interface_at all k).main
+interface_below n [] k h = (tt, tt)
 interface_below n (i ∷ all) zero h = (h.0, h.1)
 interface_below n (i ∷ all) (suc k) h = interface_below n all k h.2
 
@@ -163,12 +191,20 @@ exports_below n all k earlier (e ∷ es) symbols h below is =
     let lt : two.0 < n = subst (ResultBelow n) two.1 (export_below n all k earlier e h) in
     exports_below n all (k + 1) (earlier ++ record { name = e.name; item = two.0 } ∷ []) es symbols h (symbols_push n earlier (record { name = e.name; item = two.0 }) below lt) two.2
 
+named_below : (n : ℕ) (main : Option ℕ) (symbols : List Symbol) (x : List ℕ) → SymbolsBelow n symbols → IsBelow n main → IsBelow n (entry_named main symbols x)
+named_below n None symbols x h g = lookup_below n x symbols h
+named_below n (Some m) symbols x h g = go (bytes_eq x (codes "main"))
+  where
+    go : (b : Bool) → IsBelow n (if b then Some m else lookup x symbols)
+    go true = g
+    go false = lookup_below n x symbols h
+
 entry_below : (n : ℕ) (all : List Interface) (k : ℕ) (c : ContextSpec) → InterfacesBelow n all → ResultBelow n (entry_item all k c)
 entry_below n all k c h =
     let i = interface_below n all c.source h in
     let symbols = (interface_at all c.source).symbols in
     ok_below n (entry_in (interface_at all c.source) c.entry) (record { source = c.source; cause = NoSuchEntry k })
-    (subst (λ m. IsBelow n (entry_named m symbols c.entry)) (sym i.1) (lookup_below n c.entry symbols i.0))
+    (named_below n (interface_at all c.source).main symbols c.entry i.0 i.1)
 
 below_push : (n : ℕ) (is : List ℕ) (i : ℕ) → AllBelow n is → i < n → AllBelow n (is ++ i ∷ [])
 below_push n [] i h lt = (lt, tt)
@@ -211,14 +247,62 @@ sl_all_below n own shared [] some h g = tt
 sl_all_below n own shared (a ∷ tree) some h g =
     found_cons n (sl_found own shared a.kind a.meaning) (sl_all_found own shared tree) (sl_found_below n own shared a.kind a.meaning some h g) (sl_all_below n own shared tree some h g)
 
-pub found_below : (n : ℕ) (shared : List Symbol) (item : ℕ) (specs : List SourceSpec) (trees : List (List Addition)) → 0 < n → SymbolsBelow n shared → AllByRecursion IsSl specs
+-- ---- the procedures in scope
+
+abbrev UnfinishedBelow : ℕ → List Unfinished → Type 0
+UnfinishedBelow n [] = Unit {0}
+UnfinishedBelow n (u ∷ us) = SymbolsBelow n u.visible × UnfinishedBelow n us
+
+abbrev ScopeBelow : ℕ → Scope → Type 0
+ScopeBelow n s = SymbolsBelow n s.visible × UnfinishedBelow n s.unfinished
+
+declared_below : (n : ℕ) (kind : Kind) (item : ℕ) (us : List Unfinished) (visible : List Symbol) → next_item kind item ≤ n → SymbolsBelow n visible → SymbolsBelow n (declared kind item us visible)
+declared_below n (PlProcedure name variables) item [] visible le h = h
+declared_below n (PlProcedure name variables) item (u ∷ us) visible le h = symbols_push n visible (record { name = name; item = item }) h (omega arith)
+declared_below n _ item us visible le h = h
+
+part_below : (n : ℕ) (us : List Unfinished) → UnfinishedBelow n us → UnfinishedBelow n (part_came us)
+part_below n [] h = tt
+part_below n (u ∷ us) h = h
+
+ended_below : (n : ℕ) (us : List Unfinished) (visible : List Symbol) → UnfinishedBelow n us → SymbolsBelow n visible → ScopeBelow n (ended us visible)
+ended_below n [] visible h g = (g, tt)
+ended_below n (u ∷ us) visible h g = go u.left (ended_below n us u.visible h.1 h.0)
+  where
+    go : (left : ℕ) → ScopeBelow n (ended us u.visible) → ScopeBelow n (ended (record { left = left; visible = u.visible } ∷ us) visible)
+    go zero below = below
+    go (suc left) below = (g, h)
+
+passed_below : (n item : ℕ) (s : Scope) (a : Addition) → next_item a.kind item ≤ n → ScopeBelow n s → ScopeBelow n (passed item s a)
+passed_below n item s a le h =
+    let visible = declared a.kind item s.unfinished s.visible in
+    let below = declared_below n a.kind item s.unfinished s.visible le h.0 in
+    ended_below n (record { left = a.children; visible = visible } ∷ part_came s.unfinished) visible (below, part_below n s.unfinished h.1) below
+
+pl0_found_below : (n : ℕ) (visible shared : List Symbol) (kind : Kind) → SymbolsBelow n visible → SymbolsBelow n shared → IsBelow n (pl0_found visible shared kind)
+pl0_found_below n visible shared (PlCall x) h g = or_below n (lookup x visible) (lookup x shared) (lookup_below n x visible h) (lookup_below n x shared g)
+pl0_found_below n visible shared _ h g = tt
+
+pl0_all_below : (n : ℕ) (shared : List Symbol) (item : ℕ) (s : Scope) (tree : List Addition) → item_behind item tree ≤ n → ScopeBelow n s → SymbolsBelow n shared
+    → AllFound n (pl0_all_found shared item s tree)
+pl0_all_below n shared item s [] le h g = tt
+pl0_all_below n shared item s (a ∷ rest) le h g =
+    found_cons n (pl0_found s.visible shared a.kind) (pl0_all_found shared (next_item a.kind item) (passed item s a) rest) (pl0_found_below n s.visible shared a.kind h.0 g)
+    (pl0_all_below n shared (next_item a.kind item) (passed item s a) rest le (passed_below n item s a (omega (arith, behind_grows (next_item a.kind item) rest)) h) g)
+
+one_found : (n : ℕ) (shared : List Symbol) (item : ℕ) (language : Language) (tree : List Addition) → 0 < n → SymbolsBelow n shared → item_behind item tree ≤ n
+    → AllFound n (found_in language shared item tree)
+one_found n shared item Sl tree some g le = sl_all_below n (functions item tree) shared tree some (functions_below n item tree le) g
+one_found n shared item Pl0 tree some g le = pl0_all_below n shared item no_scope tree le (tt, tt) g
+
+pub found_below : (n : ℕ) (shared : List Symbol) (item : ℕ) (specs : List SourceSpec) (trees : List (List Addition)) → 0 < n → SymbolsBelow n shared
     → item_behind item (joined trees) ≤ n → AllFound n (all_found shared item specs trees)
-found_below n shared item [] trees some g sl le = tt
-found_below n shared item (s ∷ specs) [] some g sl le = tt
-found_below n shared item (s ∷ specs) (t ∷ trees) some g sl le =
+found_below n shared item [] trees some g le = tt
+found_below n shared item (s ∷ specs) [] some g le = tt
+found_below n shared item (s ∷ specs) (t ∷ trees) some g le =
     found_append n (found_in s.language shared item t) (all_found shared (item_behind item t) specs trees)
-    (subst (λ l. AllFound n (found_in l shared item t)) (sym sl.0) (sl_all_below n (functions item t) shared t some (functions_below n item t (first_within n item t trees le)) g))
-    (found_below n shared (item_behind item t) specs trees some g sl.1 (rest_within n item t trees le))
+    (one_found n shared item s.language t some g (first_within n item t trees le))
+    (found_below n shared (item_behind item t) specs trees some g (rest_within n item t trees le))
 
 -- ---- one for each node
 
@@ -226,19 +310,26 @@ sl_counted : (own shared : List Symbol) (tree : List Addition) → length (sl_al
 sl_counted own shared [] = refl
 sl_counted own shared (a ∷ tree) = ap suc (sl_counted own shared tree)
 
-pub found_counted : (shared : List Symbol) (item : ℕ) (specs : List SourceSpec) (trees : List (List Addition)) → AllByRecursion IsSl specs → length trees ≡ length specs
+pl0_all_counted : (shared : List Symbol) (item : ℕ) (s : Scope) (tree : List Addition) → length (pl0_all_found shared item s tree) ≡ length tree
+pl0_all_counted shared item s [] = refl
+pl0_all_counted shared item s (a ∷ tree) = ap suc (pl0_all_counted shared (next_item a.kind item) (passed item s a) tree)
+
+one_counted : (shared : List Symbol) (item : ℕ) (language : Language) (tree : List Addition) → length (found_in language shared item tree) ≡ length tree
+one_counted shared item Sl tree = sl_counted (functions item tree) shared tree
+one_counted shared item Pl0 tree = pl0_all_counted shared item no_scope tree
+
+pub found_counted : (shared : List Symbol) (item : ℕ) (specs : List SourceSpec) (trees : List (List Addition)) → length trees ≡ length specs
     → length (all_found shared item specs trees) ≡ length (joined trees)
-found_counted shared item [] [] sl h = refl
-found_counted shared item [] (t ∷ trees) sl h = absurd (omega arith)
-found_counted shared item (s ∷ specs) [] sl h = absurd (omega arith)
-found_counted shared item (s ∷ specs) (t ∷ trees) sl h =
-    let one : length (found_in s.language shared item t) ≡ length t = ap (λ l. length (found_in l shared item t)) sl.0 ∙ sl_counted (functions item t) shared t in
+found_counted shared item [] [] h = refl
+found_counted shared item [] (t ∷ trees) h = absurd (omega arith)
+found_counted shared item (s ∷ specs) [] h = absurd (omega arith)
+found_counted shared item (s ∷ specs) (t ∷ trees) h =
     omega (
       arith,
       length-append (found_in s.language shared item t) (all_found shared (item_behind item t) specs trees),
       length-append t (joined trees),
-      one,
-      found_counted shared (item_behind item t) specs trees sl.1 (omega arith),
+      one_counted shared item s.language t,
+      found_counted shared (item_behind item t) specs trees (omega arith),
     )
 
 -- ---- no name means an item before
@@ -265,20 +356,34 @@ additions_unlinked bytes tokens source earlier (x ∷ nodes) [] h = absurd h
 additions_unlinked bytes tokens source earlier (x ∷ nodes) (a ∷ tree) h =
     (subst IsUnlinked (sym h.0.means) (meaning_unlinked bytes tokens x.what.shape x.what earlier), additions_unlinked bytes tokens source (x.what ∷ earlier) nodes tree h.1)
 
-tree_unlinked : (room number : ℕ) (bytes : List ℕ) (tree : List Addition) → IsTree Sl room number bytes tree → AllUnlinked tree
-tree_unlinked room number bytes tree h = additions_unlinked bytes h.0 number [] (pres (roses 0 h.2.0)) tree h.2.2
+tree_unlinked : (language : Language) (room number : ℕ) (bytes : List ℕ) (tree : List Addition) → IsTree language room number bytes tree → AllUnlinked tree
+tree_unlinked Pl0 room number bytes tree h = pl0_unlinked bytes h.0 number h.2.0 tree h.2.2
+tree_unlinked Sl room number bytes tree h = additions_unlinked bytes h.0 number [] (pres (roses 0 h.2.0)) tree h.2.2
 
 unlinked_append : (a b : List Addition) → AllUnlinked a → AllUnlinked b → AllUnlinked (a ++ b)
 unlinked_append [] b h g = g
 unlinked_append (x ∷ a) b h g = (h.0, unlinked_append a b h.1 g)
 
-pub trees_unlinked : (number room : ℕ) (specs : List SourceSpec) (sources : List Written) (trees : List (List Addition)) → AllByRecursion IsSl specs → AreTrees number room specs sources trees
+pub trees_unlinked : (number room : ℕ) (specs : List SourceSpec) (sources : List Written) (trees : List (List Addition)) → AreTrees number room specs sources trees
     → AllUnlinked (joined trees)
-trees_unlinked number room [] [] [] sl h = tt
-trees_unlinked number room (s ∷ specs) (w ∷ sources) (t ∷ trees) sl h =
-    unlinked_append t (joined trees) (tree_unlinked room number w.bytes t (subst (λ l. IsTree l room number w.bytes t) sl.0 h.0))
-    (trees_unlinked (number + 1) _ specs sources trees sl.1 h.1)
-trees_unlinked number room [] [] (t ∷ trees) sl h = absurd h
-trees_unlinked number room [] (w ∷ sources) trees sl h = absurd h
-trees_unlinked number room (s ∷ specs) [] trees sl h = absurd h
-trees_unlinked number room (s ∷ specs) (w ∷ sources) [] sl h = absurd h
+trees_unlinked number room [] [] [] h = tt
+trees_unlinked number room (s ∷ specs) (w ∷ sources) (t ∷ trees) h =
+    unlinked_append t (joined trees) (tree_unlinked s.language room number w.bytes t h.0) (trees_unlinked (number + 1) _ specs sources trees h.1)
+trees_unlinked number room [] [] (t ∷ trees) h = absurd h
+trees_unlinked number room [] (w ∷ sources) trees h = absurd h
+trees_unlinked number room (s ∷ specs) [] trees h = absurd h
+trees_unlinked number room (s ∷ specs) (w ∷ sources) [] h = absurd h
+
+-- ---- main blocks
+
+one_main : (language : Language) (room number : ℕ) (bytes : List ℕ) (tree : List Addition) → IsTree language room number bytes tree → HasMain language tree
+one_main Sl room number bytes tree h = tt
+one_main Pl0 room number bytes tree h = main_first bytes h.0 number (pl0.words_of bytes h.0) h.2.0 tree h.2.1.spelled h.2.2
+
+pub trees_main : (number room : ℕ) (specs : List SourceSpec) (sources : List Written) (trees : List (List Addition)) → AreTrees number room specs sources trees → AllMain specs trees
+trees_main number room [] [] [] h = tt
+trees_main number room (s ∷ specs) (w ∷ sources) (t ∷ trees) h = (one_main s.language room number w.bytes t h.0, trees_main (number + 1) _ specs sources trees h.1)
+trees_main number room [] [] (t ∷ trees) h = absurd h
+trees_main number room [] (w ∷ sources) trees h = absurd h
+trees_main number room (s ∷ specs) [] trees h = absurd h
+trees_main number room (s ∷ specs) (w ∷ sources) [] h = absurd h

@@ -8,7 +8,7 @@ use Rattle.pd_sections.specs.declared.Stop.{Stop}
 use Rattle.pd_sections.specs.declared.Stop.TheVariants.{Refused, Memory}
 use Rattle.pd_sections.specs.Written.{Written}
 use Rattle.pd_plan.specs.declared.plan.Language.{Language}
-use Rattle.pd_plan.specs.declared.plan.Language.TheVariants.{Sl}
+use Rattle.pd_plan.specs.declared.plan.Language.TheVariants.{Sl, Pl0}
 use Rattle.pd_plan.specs.declared.plan.SourceSpec.{SourceSpec}
 use Rattle.pd_tree.specs.declared.addition.Addition.{Addition}
 use Rattle.pd_tree.specs.Linked.{joined}
@@ -20,6 +20,12 @@ use Rattle.pd_sl_read.proofs.Counts.{all_counted}
 use Rattle.pd_sl_read.proofs.Turns.{all_turned}
 use Rattle.pd_sl_parse.specs.Additions.{AreAdditionsOf}
 use Rattle.pd_sl_parse.proofs.Within.{trees_length}
+use Rattle.pd_pl0_spell.specs.Names.{no_declarations}
+use Rattle.pd_pl0_read.specs.declared.parts.Part as pl0
+use Rattle.pd_pl0_read.specs.Places.{program_trees}
+use Rattle.pd_pl0_read.proofs.Counts.{counted}
+use Rattle.pd_pl0_read.proofs.Turns.{program_turned}
+use Rattle.pd_pl0_parse.specs.Additions as pl0_parse
 use Rattle.pd_load.specs.declared.refusal.LoadRefusal.{LoadRefusal}
 use Rattle.pd_load.specs.declared.refusal.LoadCause.TheVariants.{Spelling}
 use Rattle.pd_load.specs.Tables.{IsText, StopsReading, StopsSpelling, at_source}
@@ -40,8 +46,28 @@ sl_tree_fits room number bytes tree h =
     let T = h.2.0 in
     omega (arith, additions_counted bytes h.0 number [] (pres (roses 0 T)) tree h.2.2, trees_length (roses 0 T), ap length (all_turned 0 T), all_counted 0 T, h.2.1.fits)
 
-pub tree_fits : (language : Language) (room number : ℕ) (bytes : List ℕ) (tree : List Addition) → language ≡ Sl → IsTree language room number bytes tree → length tree ≤ room
-tree_fits language room number bytes tree sl h = sl_tree_fits room number bytes tree (subst (λ l. IsTree l room number bytes tree) sl h)
+pub pl0_counted : (bytes : List ℕ) (tokens : List Token) (source : ℕ) (nodes : List (Node pl0.Part)) (tree : List Addition) → pl0_parse.AreAdditionsOf bytes tokens source nodes tree
+    → length tree ≡ length nodes
+pl0_counted bytes tokens source [] [] h = refl
+pl0_counted bytes tokens source [] (a ∷ tree) h = absurd h
+pl0_counted bytes tokens source (x ∷ nodes) [] h = absurd h
+pl0_counted bytes tokens source (x ∷ nodes) (a ∷ tree) h = ap suc (pl0_counted bytes tokens source nodes tree h.1)
+
+pl0_tree_fits : (room number : ℕ) (bytes : List ℕ) (tree : List Addition) → IsTree Pl0 room number bytes tree → length tree ≤ room
+pl0_tree_fits room number bytes tree h =
+    let T = h.2.0 in
+    omega (
+      arith,
+      pl0_counted bytes h.0 number (pres (program_trees T)) tree h.2.2,
+      trees_length (program_trees T),
+      ap length (program_turned T),
+      counted no_declarations 0 T,
+      h.2.1.fits,
+    )
+
+pub tree_fits : (language : Language) (room number : ℕ) (bytes : List ℕ) (tree : List Addition) → IsTree language room number bytes tree → length tree ≤ room
+tree_fits Sl room number bytes tree h = sl_tree_fits room number bytes tree h
+tree_fits Pl0 room number bytes tree h = pl0_tree_fits room number bytes tree h
 
 -- ---- the sources up to number k are spelled
 

@@ -9,6 +9,7 @@ use Rattle.pd_sections.specs.Written.{Written}
 use Rattle.pd_sections.specs.Lexing as lexing
 use Rattle.pd_sections.specs.Lexing.{Splits}
 use Rattle.pd_sections.specs.SlPieces.{sl_piece}
+use Rattle.pd_sections.specs.Pl0Pieces.{pl0_piece}
 use Rattle.pd_plan.specs.declared.plan.Language.{Language}
 use Rattle.pd_plan.specs.declared.plan.Language.TheVariants.{Sl, Pl0}
 use Rattle.pd_plan.specs.declared.plan.SourceSpec.{SourceSpec}
@@ -17,6 +18,8 @@ use Rattle.pd_tree.specs.declared.addition.Addition.{Addition}
 use Rattle.pd_tree.specs.Program.{Program}
 use Rattle.pd_sl_read.specs.Answers as reading
 use Rattle.pd_sl_parse.specs.Additions.{IsTreeOf}
+use Rattle.pd_pl0_read.specs.Answers as pl0_reading
+use Rattle.pd_pl0_parse.specs.Additions as pl0
 use Rattle.pd_load.specs.declared.refusal.LoadRefusal.{LoadRefusal}
 use Rattle.pd_load.specs.declared.refusal.LoadCause.TheVariants.{Spelling}
 use Rattle.pd_load.specs.Linked.{linked}
@@ -25,19 +28,19 @@ use Rattle.pd_load.specs.Linked.{linked}
 abbrev pub most_nodes : ℕ
 most_nodes = 65536
 
--- ---- one source, by its language; `room` is the number of nodes that may still be made. There is no parser of PL/0 yet, and no PL/0
--- source is spelled or misspelled: `load` takes none.
+-- ---- one source, by its language; `room` is the number of nodes that may still be made.
 
 -- the source is spelled, and this is its tree
 abbrev pub IsTree : Language → ℕ → ℕ → List ℕ → List Addition → Type 0
 IsTree Sl room number bytes tree = (tokens : List Token) × Splits sl_piece bytes tokens × IsTreeOf room bytes tokens number tree
-IsTree Pl0 room number bytes tree = ⊥
+IsTree Pl0 room number bytes tree = (tokens : List Token) × Splits pl0_piece bytes tokens × pl0.IsTreeOf room bytes tokens number tree
 
 -- the source has a first offending place, or its tokens have a first breach
 abbrev pub IsMisspelled : Language → ℕ → List ℕ → Refusal → Type 0
 IsMisspelled Sl room bytes refusal =
     lexing.IsRefused sl_piece bytes refusal ⊎ ((tokens : List Token) × Splits sl_piece bytes tokens × reading.IsRefused room bytes tokens refusal)
-IsMisspelled Pl0 room bytes refusal = ⊥
+IsMisspelled Pl0 room bytes refusal =
+    lexing.IsRefused pl0_piece bytes refusal ⊎ ((tokens : List Token) × Splits pl0_piece bytes tokens × pl0_reading.IsRefused room bytes tokens refusal)
 
 -- ---- the sources from a number on
 
@@ -55,6 +58,9 @@ IsFirstMisspelled number room _ _ refusal = ⊥
 
 -- ---- a plan
 
+abbrev pub IsSl : SourceSpec → Type 0
+IsSl s = s.language ≡ Sl
+
 abbrev pub AreTreesOf : Plan → List Written → List (List Addition) → Type 0
 AreTreesOf plan sources trees = AreTrees 0 most_nodes plan.sources sources trees
 
@@ -70,6 +76,3 @@ IsRefused plan sources refusal =
 abbrev pub StopsFor : Plan → List Written → Stop LoadRefusal → Type 0
 StopsFor plan sources (Refused refusal) = IsRefused plan sources refusal
 StopsFor plan sources Memory = Unit {0}
-
-abbrev pub IsSl : SourceSpec → Type 0
-IsSl s = s.language ≡ Sl

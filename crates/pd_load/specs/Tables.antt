@@ -1,5 +1,5 @@
 -- Tables of names, as the code keeps them.
-use Rattle.std.specs.Prelude.{◌≡◌, ℕ, List, [], ◌∷◌, None, Result, Err, String}
+use Rattle.std.specs.Prelude.{◌≡◌, ℕ, List, [], ◌∷◌, Result, Err, String}
 use Rattle.std.specs.Option.{option_or}
 use Rattle.std.specs.Str.{IsUtf8}
 use Rattle.std.specs.BTreeMap.{get_by_text, BTreeMap}
@@ -9,6 +9,7 @@ use Rattle.pd_sections.specs.declared.Stop.TheVariants.{Refused, Memory}
 use Rattle.pd_plan.specs.declared.plan.Language.{Language}
 use Rattle.pd_plan.specs.declared.plan.SourceSpec.{SourceSpec}
 use Rattle.pd_sections.specs.Written.{Written}
+use Rattle.pd_load.specs.declared.names.Callables.{Callables}
 use Rattle.pd_load.specs.declared.refusal.LoadRefusal.{LoadRefusal}
 use Rattle.pd_load.specs.declared.refusal.LoadCause.TheVariants.{Spelling}
 use Rattle.pd_load.specs.Loading.{IsMisspelled, IsFirstMisspelled, most_nodes}
@@ -23,11 +24,15 @@ module _ {Y : Type 0} where
   pub record Gains (old new : BTreeMap (String Y) ℕ) (symbols : List Symbol) : Type 0 where
     pub finds : (x : List ℕ) → get_by_text new x ≡ option_or (lookup x symbols) (get_by_text old x)
 
-  -- a table for each source, which has no main block
-  abbrev pub AreTables : List (BTreeMap (String Y) ℕ) → List Interface → Type 0
-  AreTables [] [] = Unit {0}
-  AreTables (t ∷ ts) (i ∷ is) = IsTable t i.symbols × (i.main ≡ None) × AreTables ts is
-  AreTables _ _ = ⊥
+-- the main block and the symbols
+pub record IsInterface (callables : Callables) (i : Interface) : Type 0 where
+  pub main : callables.main ≡ i.main
+  pub symbols : IsTable callables.symbols i.symbols
+
+abbrev pub AreTables : List Callables → List Interface → Type 0
+AreTables [] [] = Unit {0}
+AreTables (c ∷ cs) (i ∷ is) = IsInterface c i × AreTables cs is
+AreTables _ _ = ⊥
 
 -- the source's bytes are UTF-8
 abbrev pub IsText : Written → Type 0

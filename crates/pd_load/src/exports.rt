@@ -5,7 +5,7 @@ ghost use Rattle.pd_load.specs.Names.{Symbol, Interface};
 ghost use Rattle.pd_load.specs.Linked.{exported_item, exports_from, entry_item, entries_from};
 ghost use Rattle.pd_load.specs.Tables.{IsTable, AreTables, StopsWith};
 
-use crate::names::{Table, define, item_of};
+use crate::names::{Callables, Table, define, item_of};
 use crate::refusal::{LoadCause, LoadRefusal};
 use pd_plan::{ContextSpec, ExportSpec};
 use pd_sections::Stop;
@@ -17,7 +17,7 @@ fn item_exported(
     export: &ExportSpec,
     number: u32,
     earlier: &Table,
-    tables: &[Table],
+    tables: &[Callables],
 ) -> Result<u32, LoadRefusal>
     requires { export.now.source < length tables.now }
     ensures { (all : List Interface) → AreTables tables.now all → (symbols : List Symbol) → IsTable earlier.now symbols →
@@ -28,7 +28,7 @@ fn item_exported(
         let cause = LoadCause::DoubledExport { export: number };
         return Err(LoadRefusal { source, cause });
     }
-    match item_of(&tables[source as usize], export.item.as_str()) {
+    match item_of(&tables[source as usize].symbols, export.item.as_str()) {
         Some(item) => Ok(item),
         None => {
             let cause = LoadCause::NoSuchItem { export: number };
@@ -41,7 +41,7 @@ fn item_exported(
 pub fn exports_of(
     alloc: Global,
     exports: &[ExportSpec],
-    tables: &[Table],
+    tables: &[Callables],
 ) -> Result<Table, Stop<LoadRefusal>>
     requires few { length exports.now ≤ 256 }
     requires refers { AllByRecursion (λ e. e.source < length tables.now) exports.now }
@@ -61,12 +61,16 @@ pub fn exports_of(
 }
 
 /// The item that a context calls, the context of this number.
-fn item_entered(context: &ContextSpec, number: u32, tables: &[Table]) -> Result<u32, LoadRefusal>
+fn item_entered(
+    context: &ContextSpec,
+    number: u32,
+    tables: &[Callables],
+) -> Result<u32, LoadRefusal>
     requires { context.now.source < length tables.now }
     ensures { (all : List Interface) → AreTables tables.now all → result ≡ entry_item all number context.now }
 {
     let source = context.source;
-    match item_of(&tables[source as usize], context.entry.as_str()) {
+    match tables[source as usize].entry(context.entry.as_str()) {
         Some(item) => Ok(item),
         None => {
             let cause = LoadCause::NoSuchEntry { context: number };
@@ -79,7 +83,7 @@ fn item_entered(context: &ContextSpec, number: u32, tables: &[Table]) -> Result<
 pub fn entries_of(
     alloc: Global,
     contexts: &[ContextSpec],
-    tables: &[Table],
+    tables: &[Callables],
 ) -> Result<Vec<u32>, Stop<LoadRefusal>>
     requires few { length contexts.now ≤ 16 }
     requires refers { AllByRecursion (λ c. c.source < length tables.now) contexts.now }

@@ -1,16 +1,16 @@
 //! The items that the names in the trees mean.
-ghost use Rattle.std.specs.Prelude.{◌≡◌, ℕ, ◌+◌, ◌≤◌, List, ◌++◌, length, OnOk, IfOk};
-ghost use Rattle.std.specs.List.{AllByRecursion};
+ghost use Rattle.std.specs.Prelude.{◌≡◌, ℕ, ◌+◌, ◌<◌, ◌≤◌, ◌^◌, List, ◌++◌, length, Option, Some, OnOk, IfOk};
 ghost use Rattle.pd_tree.specs.Linked.{joined};
-ghost use Rattle.pd_plan.specs.declared.plan.Language.TheVariants.{Sl};
 ghost use Rattle.pd_load.specs.Names as definition;
 ghost use Rattle.pd_load.specs.Names.{Symbol};
+ghost use Rattle.pd_load.specs.Scopes.{IsScope};
 ghost use Rattle.pd_load.specs.Linked.{interfaces, all_found};
-ghost use Rattle.pd_load.specs.Loading.{IsSl};
-ghost use Rattle.pd_load.specs.Tables.{IsTable, AreTables};
+ghost use Rattle.pd_plan.specs.declared.plan.Language.{Language};
+ghost use Rattle.pd_load.specs.Tables.{IsTable, IsInterface, AreTables};
 
-use crate::names::{Table, item_of};
-use pd_plan::{Language, SourceSpec};
+use crate::names::{Callables, Table, item_of, next_item};
+use crate::scope::Scope;
+use pd_plan::SourceSpec;
 use pd_tree::{Addition, Kind, Meaning, Tree};
 use std::alloc::{AllocError, Global};
 
@@ -58,22 +58,59 @@ fn add_sl(
     Ok(())
 }
 
-/// Adds for each node of a source the item that was found for it, if one was.
-fn add_found(
-    language: Language,
-    own: &Table,
+/// The item found for a node of PL/0.
+fn pl0_found(scope: &Scope, exports: &Table, kind: &Kind) -> Option<u32>
+    ensures { (s : definition.Scope) → IsScope scope.now s → (shared : List Symbol) → IsTable exports.now shared →
+        result ≡ definition.pl0_found s.visible shared kind.now }
+{
+    match kind {
+        Kind::PlCall(name) => match scope.find(name.as_str()) {
+            Some(item) => Some(item),
+            None => item_of(exports, name.as_str()),
+        },
+        _ => None,
+    }
+}
+
+/// Adds for each node of a source of PL/0, whose first item has this number, the item that was found for it.
+fn add_pl0(
+    alloc: Global,
+    first: u32,
     exports: &Table,
     tree: &[Addition],
     found: &mut Vec<Option<u32>>,
 ) -> Result<(), AllocError>
-    requires { language ≡ Sl }
-    ensures { OnOk result ((first : ℕ) → IsTable own.now (definition.interface_of language first tree.now).symbols →
+    requires { first + length tree.now < 2 ^ 32 }
+    ensures { OnOk result ((shared : List Symbol) → IsTable exports.now shared →
+        found.new.items ≡ found.old.items ++ definition.pl0_all_found shared first definition.no_scope tree.now) }
+{
+    let mut scope = Scope::new(alloc);
+    let mut item = first;
+    for node in tree {
+        found.push(pl0_found(&scope, exports, &node.kind))?;
+        scope.pass(node, item)?;
+        item = next_item(&node.kind, item);
+    }
+    Ok(())
+}
+
+/// Adds for each node of a source the item that was found for it, if one was. A main block is the first item of its
+/// source.
+fn add_found(
+    alloc: Global,
+    own: &Callables,
+    exports: &Table,
+    tree: &[Addition],
+    found: &mut Vec<Option<u32>>,
+) -> Result<(), AllocError>
+    requires { (first : ℕ) → own.now.main ≡ Some first → first + length tree.now < 2 ^ 32 }
+    ensures { OnOk result ((language : Language) → (first : ℕ) → IsInterface own.now (definition.interface_of language first tree.now) →
         (shared : List Symbol) → IsTable exports.now shared →
         found.new.items ≡ found.old.items ++ definition.found_in language shared first tree.now) }
 {
-    match language {
-        Language::Sl => add_sl(own, exports, tree, found),
-        Language::Pl0 => unreachable!(),
+    match own.main {
+        None => add_sl(&own.symbols, exports, tree, found),
+        Some(main) => add_pl0(alloc, main, exports, tree, found),
     }
 }
 
@@ -82,11 +119,11 @@ pub fn found_for(
     alloc: Global,
     specs: &[SourceSpec],
     trees: &[Tree],
-    tables: &[Table],
+    tables: &[Callables],
     exports: &Table,
 ) -> Result<Vec<Option<u32>>, AllocError>
     requires each { length trees.now ≡ length specs.now }
-    requires languages { AllByRecursion IsSl specs.now }
+    requires few { length (joined trees.now) ≤ 65536 }
     requires counted { length tables.now ≡ length specs.now }
     requires tables { AreTables tables.now (interfaces 1 specs.now trees.now) }
     ensures { IfOk result (λ found. (shared : List Symbol) → IsTable exports.now shared →
@@ -94,14 +131,7 @@ pub fn found_for(
 {
     let mut found = Vec::new(alloc);
     for (index, tree) in trees.iter().enumerate() {
-        let language = specs[index].language;
-        add_found(
-            language,
-            &tables[index],
-            exports,
-            tree.additions(),
-            &mut found,
-        )?;
+        add_found(alloc, &tables[index], exports, tree.additions(), &mut found)?;
     }
     Ok(found)
 }

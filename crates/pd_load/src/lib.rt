@@ -6,6 +6,7 @@ mod found;
 mod loading;
 mod names;
 mod refusal;
+mod scope;
 mod sources;
 
 pub use loading::load;

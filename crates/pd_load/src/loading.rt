@@ -20,14 +20,13 @@ use std::alloc::Global;
 /// 65,536 nodes together; then the exports in order, each of which must have a name that no earlier one has, and name an
 /// item of its source; then the entries of the contexts in order.
 ///
-/// `sources` are the plan's, in its order. They are SL, as long as there is no parser of PL/0.
+/// `sources` are the plan's, in its order.
 pub fn load(alloc: Global, sources: &[Source], plan: &Plan) -> Result<Program, Stop<LoadRefusal>>
     requires sound { IsSound plan.now }
     requires each { length sources.now ≡ length plan.now.sources }
-    requires languages { AllByRecursion IsSl plan.now.sources }
     ensures loaded { IfOk result (IsLoaded plan.now sources.now) }
     ensures spelled { IfOk result (λ _. (r : LoadRefusal) → IsFirstMisspelled 0 most_nodes plan.now.sources sources.now r → ⊥) }
-    ensures complete { IfOk result (λ _. (r : LoadRefusal) → IsRefused plan.now sources.now r → ⊥) }
+    ensures complete { AllByRecursion IsSl plan.now.sources → IfOk result (λ _. (r : LoadRefusal) → IsRefused plan.now sources.now r → ⊥) }
     ensures refused { IfErr result (StopsFor plan.now sources.now) }
 {
     let specs = plan.sources.as_slice();

@@ -3,8 +3,8 @@ ghost use Rattle.std.specs.Prelude.{◌≡◌, ◌≤◌, length, IfOk, IfErr, O
 ghost use Rattle.std.specs.List.{AllByRecursion};
 ghost use Rattle.std.specs.Str.{IsUtf8};
 ghost use Rattle.pd_tree.specs.Linked.{joined};
-ghost use Rattle.pd_plan.specs.declared.plan.Language.TheVariants.{Sl};
-ghost use Rattle.pd_load.specs.Loading.{IsTree, AreTrees, IsSl, most_nodes};
+ghost use Rattle.pd_plan.specs.declared.plan.Language.TheVariants.{Sl, Pl0};
+ghost use Rattle.pd_load.specs.Loading.{IsTree, AreTrees, most_nodes};
 ghost use Rattle.pd_load.specs.Tables.{IsText, StopsReading, StopsSpelling, at_source};
 
 use crate::refusal::{LoadCause, LoadRefusal};
@@ -27,6 +27,22 @@ fn sl_tree_of(alloc: Global, source: &Source, number: u32, room: u32) -> Result<
     pd_sl_parse::parse(alloc, source, number, &tokens, room)
 }
 
+fn pl0_tree_of(
+    alloc: Global,
+    source: &Source,
+    number: u32,
+    room: u32,
+) -> Result<Tree, Stop<Refusal>>
+    requires { room ≤ 65536 }
+    ensures spelled { IfOk result (IsTree Pl0 room number source.now.bytes) }
+    ensures text { IsUtf8 source.now.bytes }
+    ensures refused { IfErr result (StopsReading Pl0 room source.now.bytes) }
+{
+    let _ = source.bytes();
+    let tokens = pd_pl0_lex::lex(alloc, source)?;
+    pd_pl0_parse::parse(alloc, source, number, &tokens, room)
+}
+
 /// The tree of a source, the one of this number, where so many nodes may still be made.
 fn tree_of(
     alloc: Global,
@@ -35,15 +51,14 @@ fn tree_of(
     number: u32,
     room: u32,
 ) -> Result<Tree, Stop<Refusal>>
-    requires language { language ≡ Sl }
-    requires few { room ≤ 65536 }
+    requires { room ≤ 65536 }
     ensures spelled { IfOk result (IsTree language room number source.now.bytes) }
     ensures text { IsUtf8 source.now.bytes }
     ensures refused { IfErr result (StopsReading language room source.now.bytes) }
 {
     match language {
         Language::Sl => sl_tree_of(alloc, source, number, room),
-        Language::Pl0 => unreachable!(),
+        Language::Pl0 => pl0_tree_of(alloc, source, number, room),
     }
 }
 
@@ -68,7 +83,6 @@ pub fn trees_of(
 ) -> Result<Vec<Tree>, Stop<LoadRefusal>>
     requires each { length sources.now ≡ length specs.now }
     requires few { length specs.now ≤ 16 }
-    requires languages { AllByRecursion IsSl specs.now }
     ensures spelled { IfOk result (λ trees. AreTrees 0 most_nodes specs.now sources.now trees.items) }
     ensures texts { OnOk result (AllByRecursion IsText sources.now) }
     ensures counted { IfOk result (λ trees. length trees.items ≡ length specs.now) }

@@ -1,9 +1,6 @@
 //! Two sources with two exports of the second and one context at the first.
 ghost use Rattle.std.specs.Prelude.{◌≡◌, length, IfOk};
-ghost use Rattle.std.specs.List.{AllByRecursion};
 ghost use Rattle.pd_plan.specs.Sound.{IsSound, ContextFits};
-ghost use Rattle.pd_plan.specs.declared.plan.Language.TheVariants.{Sl};
-ghost use Rattle.pd_load.specs.Loading.{IsSl};
 
 use crate::loading::load;
 use pd_plan::{ContextSpec, ExportSpec, Language, Plan, SourceSpec};
@@ -18,11 +15,8 @@ fn text(alloc: Global, chars: &str) -> Result<Text, AllocError> {
     Ok(Text::of(String::from_str(alloc, chars)?))
 }
 
-fn spec(alloc: Global) -> Result<SourceSpec, AllocError>
-    ensures { IfOk result IsSl }
-{
+fn spec(alloc: Global, language: Language) -> Result<SourceSpec, AllocError> {
     let name = text(alloc, "t")?;
-    let language = Language::Sl;
     Ok(SourceSpec { name, language })
 }
 
@@ -48,15 +42,20 @@ fn context(alloc: Global, entry: &str) -> Result<ContextSpec, AllocError>
     })
 }
 
-fn plan(alloc: Global, names: [&str; 2], items: [&str; 2], entry: &str) -> Result<Plan, AllocError>
+fn plan(
+    alloc: Global,
+    second: Language,
+    names: [&str; 2],
+    items: [&str; 2],
+    entry: &str,
+) -> Result<Plan, AllocError>
     ensures sound { IfOk result IsSound }
     ensures two { IfOk result (λ p. length p.sources ≡ 2) }
-    ensures languages { IfOk result (λ p. AllByRecursion IsSl p.sources) }
 {
-    let sources = Items::of(vec![in alloc; spec(alloc)?, spec(alloc)?]?);
+    let sources = Items::of(vec![in alloc; spec(alloc, Language::Sl)?, spec(alloc, second)?]?);
     let first = export(alloc, names[0], items[0])?;
-    let second = export(alloc, names[1], items[1])?;
-    let exports = Items::of(vec![in alloc; first, second]?);
+    let next = export(alloc, names[1], items[1])?;
+    let exports = Items::of(vec![in alloc; first, next]?);
     let contexts = Items::of(vec![in alloc; context(alloc, entry)?]?);
     let bindings = Items::of(Vec::new(alloc));
     let sessions = Items::of(Vec::new(alloc));
@@ -89,7 +88,6 @@ fn source(rt: &impl Abort, alloc: Global, text: &str) -> Result<Source, Fail> {
 fn answer(rt: &impl Abort, alloc: Global, second: &str, plan: &Plan) -> Result<String, Fail>
     requires sound { IsSound plan.now }
     requires two { length plan.now.sources ≡ 2 }
-    requires languages { AllByRecursion IsSl plan.now.sources }
 {
     let first = "function f() { } function f() { g(); } function main() { f(); println(h()); z; }";
     let sources = [source(rt, alloc, first)?, source(rt, alloc, second)?];
@@ -139,7 +137,30 @@ fn answers(rt: HostRuntime) -> Result<(), Fail> {
         ),
     ];
     for (second, names, items, entry, expected) in rows {
-        let plan = plan(alloc, names, items, entry)?;
+        let plan = plan(alloc, Language::Sl, names, items, entry)?;
+        let found = answer(&rt, alloc, second, &plan)?;
+        assert_eq!(rt; found.as_str(), expected);
+    }
+    Ok(())
+}
+
+#[test]
+fn procedures(rt: HostRuntime) -> Result<(), Fail> {
+    let alloc = rt.alloc();
+    let good =
+        "procedure p; procedure q; call p; begin call q; call g end; procedure r; call h; call p.";
+    let rows = [
+        (good, ["g", "h"], ["p", "r"], "5 2 0 7 5 6 5 7 5 "),
+        (good, ["g", "h"], ["p", "q"], "1 NoSuchItem { export: 1 }"),
+        (
+            "begin end",
+            ["g", "h"],
+            ["p", "q"],
+            "1 Spelling(Refusal { rule: Unexpected, at: 9 })",
+        ),
+    ];
+    for (second, names, items, expected) in rows {
+        let plan = plan(alloc, Language::Pl0, names, items, "main")?;
         let found = answer(&rt, alloc, second, &plan)?;
         assert_eq!(rt; found.as_str(), expected);
     }
