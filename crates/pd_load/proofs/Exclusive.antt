@@ -29,11 +29,13 @@ use Rattle.pd_pl0_read.specs.Places.{program_trees}
 use Rattle.pd_pl0_read.specs.Tokens as pl0
 use Rattle.pd_pl0_read.specs.Answers as pl0_reading
 use Rattle.pd_pl0_parse.specs.Additions as pl0_parse
+use Rattle.pd_pl0_parse.proofs.Spelling as pl0_names
+use Rattle.pd_pl0_parse.proofs.Once as pl0_once
 use Rattle.pd_load.specs.declared.refusal.LoadRefusal.{LoadRefusal}
 use Rattle.pd_load.specs.Names.{Symbol}
 use Rattle.pd_load.specs.Linked.{interfaces, all_found, and_then, exports_from, entries_from, linked}
 use Rattle.pd_load.specs.Tables.{IsText}
-use Rattle.pd_load.specs.Loading.{most_nodes, IsTree, IsMisspelled, AreTrees, IsFirstMisspelled, AreTreesOf, IsSl, IsRefused}
+use Rattle.pd_load.specs.Loading.{most_nodes, IsTree, IsMisspelled, AreTrees, IsFirstMisspelled, AreTreesOf, IsRefused}
 use Rattle.pd_load.proofs.Spelling.{additions_counted, pl0_counted}
 
 accepted_not_refused : (room : ℕ) (ws : List Word) (T : Trees) → Accepts room ws T → (rule : spelling.Rule) (place : ℕ) → Refuses room ws rule place → ⊥
@@ -83,26 +85,28 @@ trees_not_misspelled number room (s ∷ specs) (w ∷ sources) (t ∷ trees) h r
     trees_not_misspelled (number + 1) (room - length t) specs sources trees h.1 r
     (subst (λ n. IsFirstMisspelled (number + 1) (room - n) specs sources r) (sym (same_length s.language room number w.bytes t g.0 h.0 g.1)) g.2)
 
--- a source of SL that is UTF-8 has one tree
-tree_once : (language : Language) (room number : ℕ) (bytes : List ℕ) (t u : List Addition) → language ≡ Sl → IsUtf8 bytes → IsTree language room number bytes t → IsTree language room number bytes u → u ≡ t
-tree_once Pl0 room number bytes t u sl text h g = absurd (cc)
-tree_once Sl room number bytes t u sl text h g =
+-- a source that is UTF-8 has one tree
+tree_once : (language : Language) (room number : ℕ) (bytes : List ℕ) (t u : List Addition) → IsUtf8 bytes → IsTree language room number bytes t → IsTree language room number bytes u → u ≡ t
+tree_once Pl0 room number bytes t u text h g =
+    let same : g.0 ≡ h.0 = h.1.only g.0 g.1.lexes in
+    pl0_once.tree_once room bytes h.0 number u t (pl0_names.all_spelled bytes h.0 h.1.lexes) (subst (λ tokens. pl0_parse.IsTreeOf room bytes tokens number u) same g.2) h.2
+tree_once Sl room number bytes t u text h g =
     let same : g.0 ≡ h.0 = h.1.only g.0 g.1.lexes in
     once.tree_once room bytes h.0 number u t (all_spelled bytes h.0 text h.1.lexes) (subst (λ tokens. IsTreeOf room bytes tokens number u) same g.2) h.2
 
-trees_once : (number room : ℕ) (specs : List SourceSpec) (sources : List Written) (trees others : List (List Addition)) → AllByRecursion IsSl specs → AllByRecursion IsText sources → AreTrees number room specs sources trees
+trees_once : (number room : ℕ) (specs : List SourceSpec) (sources : List Written) (trees others : List (List Addition)) → AllByRecursion IsText sources → AreTrees number room specs sources trees
     → AreTrees number room specs sources others → others ≡ trees
-trees_once number room [] [] [] [] sl texts h g = refl
-trees_once number room [] [] [] (u ∷ others) sl texts h g = absurd g
-trees_once number room [] [] (t ∷ trees) others sl texts h g = absurd h
-trees_once number room [] (w ∷ sources) trees others sl texts h g = absurd h
-trees_once number room (s ∷ specs) [] trees others sl texts h g = absurd h
-trees_once number room (s ∷ specs) (w ∷ sources) [] others sl texts h g = absurd h
-trees_once number room (s ∷ specs) (w ∷ sources) (t ∷ trees) [] sl texts h g = absurd g
-trees_once number room (s ∷ specs) (w ∷ sources) (t ∷ trees) (u ∷ others) sl texts h g =
-    let one : u ≡ t = tree_once s.language room number w.bytes t u sl.0 texts.0 h.0 g.0 in
+trees_once number room [] [] [] [] texts h g = refl
+trees_once number room [] [] [] (u ∷ others) texts h g = absurd g
+trees_once number room [] [] (t ∷ trees) others texts h g = absurd h
+trees_once number room [] (w ∷ sources) trees others texts h g = absurd h
+trees_once number room (s ∷ specs) [] trees others texts h g = absurd h
+trees_once number room (s ∷ specs) (w ∷ sources) [] others texts h g = absurd h
+trees_once number room (s ∷ specs) (w ∷ sources) (t ∷ trees) [] texts h g = absurd g
+trees_once number room (s ∷ specs) (w ∷ sources) (t ∷ trees) (u ∷ others) texts h g =
+    let one : u ≡ t = tree_once s.language room number w.bytes t u texts.0 h.0 g.0 in
     let rest : AreTrees (number + 1) (room - length t) specs sources others = subst (λ x. AreTrees (number + 1) (room - length x) specs sources others) one g.1 in
-    let more : others ≡ trees = trees_once (number + 1) (room - length t) specs sources trees others sl.1 texts.1 h.1 rest in
+    let more : others ≡ trees = trees_once (number + 1) (room - length t) specs sources trees others texts.1 h.1 rest in
     ap (λ x. x ∷ others) one ∙ ap (λ xs. t ∷ xs) more
 
 never_both : (program : Program) (r : LoadRefusal) → ◌≡◌ {A = Result Program LoadRefusal} (Err r) (Ok program) → ⊥
@@ -116,10 +120,10 @@ linked_all plan trees exports entries found program h g f p =
     ∙ ap (λ r. and_then r (λ items. Ok (program_of trees (all_found exports 1 plan.sources trees) items))) g
     ∙ ap Ok (ap (λ items. program_of trees items entries) (sym f) ∙ sym p)
 
-pub loaded_not_refused : (plan : Plan) (sources : List Written) (trees : List (List Addition)) (program : Program) → AllByRecursion IsSl plan.sources → AllByRecursion IsText sources → AreTreesOf plan sources trees
+pub loaded_not_refused : (plan : Plan) (sources : List Written) (trees : List (List Addition)) (program : Program) → AllByRecursion IsText sources → AreTreesOf plan sources trees
     → linked plan trees ≡ Ok program → (r : LoadRefusal) → IsRefused plan sources r → ⊥
-loaded_not_refused plan sources trees program sl texts h l r (inl g) = trees_not_misspelled 0 most_nodes plan.sources sources trees h r g
-loaded_not_refused plan sources trees program sl texts h l r (inr g) =
-    let one : g.0 ≡ trees = trees_once 0 most_nodes plan.sources sources trees g.0 sl texts h g.1 in
+loaded_not_refused plan sources trees program texts h l r (inl g) = trees_not_misspelled 0 most_nodes plan.sources sources trees h r g
+loaded_not_refused plan sources trees program texts h l r (inr g) =
+    let one : g.0 ≡ trees = trees_once 0 most_nodes plan.sources sources trees g.0 texts h g.1 in
     let refused : linked plan trees ≡ Err r = subst (λ ts. linked plan ts ≡ Err r) one g.2 in
     never_both program r (sym refused ∙ l)

@@ -58,9 +58,6 @@ IsFirstMisspelled number room _ _ refusal = ⊥
 
 -- ---- a plan
 
-abbrev pub IsSl : SourceSpec → Type 0
-IsSl s = s.language ≡ Sl
-
 abbrev pub AreTreesOf : Plan → List Written → List (List Addition) → Type 0
 AreTreesOf plan sources trees = AreTrees 0 most_nodes plan.sources sources trees
 

@@ -1,9 +1,8 @@
 //! From sources to a program.
 ghost use Rattle.std.specs.Prelude.{◌≡◌, length, IfOk, IfErr};
-ghost use Rattle.std.specs.List.{AllByRecursion};
 ghost use Rattle.pd_plan.specs.Sound.{IsSound};
 ghost use Rattle.pd_load.specs.declared.refusal.LoadRefusal.{LoadRefusal};
-ghost use Rattle.pd_load.specs.Loading.{IsLoaded, IsFirstMisspelled, IsRefused, StopsFor, IsSl, most_nodes};
+ghost use Rattle.pd_load.specs.Loading.{IsLoaded, IsFirstMisspelled, IsRefused, StopsFor, most_nodes};
 
 use crate::exports::{entries_of, exports_of};
 use crate::found::found_for;
@@ -26,7 +25,7 @@ pub fn load(alloc: Global, sources: &[Source], plan: &Plan) -> Result<Program, S
     requires each { length sources.now ≡ length plan.now.sources }
     ensures loaded { IfOk result (IsLoaded plan.now sources.now) }
     ensures spelled { IfOk result (λ _. (r : LoadRefusal) → IsFirstMisspelled 0 most_nodes plan.now.sources sources.now r → ⊥) }
-    ensures complete { AllByRecursion IsSl plan.now.sources → IfOk result (λ _. (r : LoadRefusal) → IsRefused plan.now sources.now r → ⊥) }
+    ensures complete { IfOk result (λ _. (r : LoadRefusal) → IsRefused plan.now sources.now r → ⊥) }
     ensures refused { IfErr result (StopsFor plan.now sources.now) }
 {
     let specs = plan.sources.as_slice();

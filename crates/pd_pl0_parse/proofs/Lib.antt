@@ -5,3 +5,6 @@ pub mod Owning
 pub mod Slots
 pub mod Whole
 pub mod Building
+pub mod Spelling
+pub mod Worded
+pub mod Once

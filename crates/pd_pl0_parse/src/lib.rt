@@ -6,6 +6,7 @@ mod kinds;
 mod texts;
 
 pub use build::parse;
+pub use texts::one_tree_law;
 
 #[cfg(test)]
 mod tests;

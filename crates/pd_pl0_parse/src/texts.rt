@@ -1,7 +1,9 @@
 //! Tokens by their numbers, and their texts.
-ghost use Rattle.std.specs.Prelude.{◌≡◌, ◌<◌, ◌≤◌, ◌+◌, length, IfOk};
-ghost use Rattle.pd_sections.specs.Lexing.{InOrder};
-ghost use Rattle.pd_pl0_parse.specs.Additions.{IsText};
+ghost use Rattle.std.specs.Prelude.{◌≡◌, ℕ, ◌<◌, ◌≤◌, ◌+◌, List, length, IfOk};
+ghost use Rattle.pd_sections.specs.Lexing.{InOrder, Splits};
+ghost use Rattle.pd_sections.specs.Pl0Pieces.{pl0_piece};
+ghost use Rattle.pd_tree.specs.declared.addition.Addition.{Addition};
+ghost use Rattle.pd_pl0_parse.specs.Additions.{IsText, IsTreeOf};
 ghost use Rattle.pd_pl0_parse.specs.Texts.{token_at, text_at, length_of, section_of};
 
 use pd_pl0_read::Part;
@@ -81,3 +83,8 @@ pub fn characters(alloc: Global, bytes: &[u8]) -> Result<Text, AllocError>
         Err(_) => Ok(Text::of(String::new(alloc))),
     }
 }
+
+/// The names of a source are ASCII, and so the source has one tree.
+pub fn one_tree_law()
+    ensures { (room : ℕ) (bytes : List ℕ) (tokens : List Token) (source : ℕ) (t u : List Addition) → Splits pl0_piece bytes tokens → IsTreeOf room bytes tokens source t → IsTreeOf room bytes tokens source u → t ≡ u }
+{}

@@ -44,12 +44,12 @@ returns-clause-spelled c =
     trees_not_misspelled 0 most_nodes c.args.plan.now.sources c.args.sources.now c.in_ok-trees.trees.items (rw c.as_slice-specs.ensures at c.in_ok-trees.ensures.spelled)
 
 pub returns-clause-complete : goal.returns-clause-complete
-returns-clause-complete c sl =
+returns-clause-complete c =
     let plan = c.args.plan.now in
     let trees = c.in_ok-trees.trees.items in
     let tables = rw (c.as_slice-specs.ensures, c.as_slice.ensures.value) at c.in_ok-tables.ensures.tables in
     let exports = (rw (c.as_slice-2.ensures, c.as_slice-3.ensures.value) at c.in_ok-exports.ensures.found) (interfaces 1 plan.sources trees) tables in
     let found = (rw (c.as_slice-specs.ensures, c.as_slice-6.ensures.value) at c.in_ok-found.ensures) exports.0 exports.1 in
     let entries = (rw (c.as_slice-4.ensures, c.as_slice-5.ensures.value) at c.in_ok-entries.ensures.found) (interfaces 1 plan.sources trees) tables in
-    loaded_not_refused plan c.args.sources.now trees c.in_ok-program.program sl c.in_ok-trees.ensures.texts (rw c.as_slice-specs.ensures at c.in_ok-trees.ensures.spelled)
+    loaded_not_refused plan c.args.sources.now trees c.in_ok-program.program c.in_ok-trees.ensures.texts (rw c.as_slice-specs.ensures at c.in_ok-trees.ensures.spelled)
     (linked_all plan trees exports.0 c.in_ok-entries.entries.items c.in_ok-found.found.items c.in_ok-program.program exports.2 entries found c.in_ok-program.ensures)
