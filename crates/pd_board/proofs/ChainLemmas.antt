@@ -74,11 +74,6 @@ held_none words b none = held_clear words b (ap (λ w. bit_at w (b % 64)) none �
 pub held_past : (words : List ℕ) (b : ℕ) → length words ≤ b / 64 → held words b ≡ false
 held_past words b past = held_none words b (grind (arith, common_steps))
 
-pub held_nothing : (words : List ℕ) (b : ℕ) → length words ≡ 64 → Summed 0 words → held words b ≡ false
-held_nothing words b len summed = by_lt (b / 64) 64
-    (λ (below : b / 64 < 64). held_none words b (word_none 0 words (b / 64) summed below (bit_at-zero (b / 64))))
-    (λ (past : 64 ≤ b / 64). held_past words b (omega arith))
-
 -- one bit less in the word of b
 pub removed_same : (word b c : ℕ) → c ≡ b → b < 64 → (bit_at (bit_and word (bit_not w64 (1 * 2 ^ b % 2 ^ 64))) c == 1) ≡ false
 removed_same word b c e below = let h = bit_at_clear_same w64 word b below in grind arith

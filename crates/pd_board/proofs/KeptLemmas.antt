@@ -11,8 +11,8 @@ use Rattle.pd_board.specs.declared.answers.Drawn.TheVariants as drawns
 use Rattle.pd_board.specs.declared.answers.ActResult.{ActResult}
 use Rattle.pd_board.specs.declared.answers.Sight.{Sight}
 use Rattle.pd_board.specs.declared.life.Life.{Life}
-use Rattle.pd_board.specs.Answers.{number_of, number_in, NumbersBelow, has_attach, has_dispose, disposal, toggle_count, is_attach, is_dispose, is_disposal}
-use Rattle.pd_board.specs.Kept.{upto, numbers_of, place_of, missed_of, disables_upto, enables_upto, IsMissed, FitsToggles, Tells, EachAfter, IsAnswer, off_by, last_off}
+use Rattle.pd_board.specs.Answers.{number_of, number_in, NumbersBelow, has_attach, has_attachment, has_dispose, disposal, toggle_count, TogglesUpTo, is_attach, is_attachment, is_dispose, is_disposal}
+use Rattle.pd_board.specs.Kept.{upto, numbers_of, place_of, missed_of, disables_upto, enables_upto, IsMissed, FitsToggles, Tells, EachAfter, IsAnswer, IsLater, off_by, last_off}
 use Rattle.pd_board.proofs.ChainLemmas.{by_eq}
 
 pub upto-more : (n : ℕ) → upto (n + 1) ≡ upto n ++ n ∷ []
@@ -70,6 +70,8 @@ seen_none b s sights replies x none fits t = record {
   attached = t.attached;
   disposed = t.disposed;
   disposals = t.disposals;
+  attachment = t.attachment;
+  numbered = t.numbered;
   numbers = numbers_none b sights x none ∙ t.numbers;
   below = all_more (Below b s.count) sights x t.below (λ p e. absurd (cc (none, e)));
   unattached = t.unattached;
@@ -77,6 +79,7 @@ seen_none b s sights replies x none fits t = record {
   counted = t.counted;
   off = t.off;
   toggled = all_more (FitsToggles b replies) sights x t.toggled fits;
+  rising = t.rising;
   switched = t.switched;
   history = t.history;
 }
@@ -89,6 +92,8 @@ seen_next b s sights replies x some fits on here t = record {
   attached = t.attached;
   disposed = t.disposed;
   disposals = t.disposals;
+  attachment = t.attachment;
+  numbered = λ _. t.attachment here ∙ on;
   numbers = numbers_some b sights x s.count some ∙ (ap (λ ns. ns ++ s.count ∷ []) t.numbers ∙ sym (upto-more s.count));
   below = all_more (Below b (s.count + 1)) sights x (all_map (Below b s.count) (Below b (s.count + 1)) sights (λ y h p e. let k = h p e in omega arith) t.below) (λ p e. let k : s.count ≡ p = cc (some, e) in omega arith);
   unattached = λ off. absurd (cc (on, off));
@@ -96,6 +101,7 @@ seen_next b s sights replies x some fits on here t = record {
   counted = all_map (Counted b s.count) (Counted b (s.count + 1)) replies (λ r h n e. let k = h n e in omega arith) t.counted;
   off = λ n above. t.off n (omega arith);
   toggled = all_more (FitsToggles b replies) sights x t.toggled fits;
+  rising = t.rising;
   switched = t.switched;
   history = t.history;
 }
@@ -126,8 +132,9 @@ pub record Replies (b : ℕ) (s s' : Life) (r : ActResult) : Type 0 where
   pub attached : s'.attached ≡ (s.attached || is_attach b r)
   pub disposed : s'.disposed ≡ (s.disposed || is_dispose b r)
   pub disposals : s'.disposed ≡ (s.disposed || is_disposal b r)
+  pub attachment : s.disposed ≡ false → (s.attached || is_attachment b r) ≡ (s.attached || is_attach b r)
   pub final : ForSome (disposal b r) (λ n. (s'.disposed ≡ true) × (n ≡ s.count))
-  pub counted : ForSome (toggle_count b r) (λ n. n ≤ s.count)
+  pub counted : ForSome (toggle_count b r) (λ n. n ≡ s.count)
   pub off : (n : ℕ) → s.count ≤ n → (if disables_upto b n r then 1 else 0) + (if s.off then 1 else 0) ≡ (if enables_upto b n r then 1 else 0) + (if s'.off then 1 else 0)
   pub disables : (n : ℕ) → n < s.count → disables_upto b n r ≡ false
   pub enables : (n : ℕ) → n < s.count → enables_upto b n r ≡ false
@@ -144,6 +151,9 @@ fits_more b count replies r x d e below fits = record {
 
 or_true : (a b : Bool) → a ≡ true → (a || b) ≡ true
 or_true a b h = grind arith
+
+or_false : (a b : Bool) → (a || b) ≡ false → a ≡ false
+or_false a b h = grind arith
 
 subst2 : {A B : Type 0} (P : A → B → Type 0) {a a' : A} {b b' : B} → a' ≡ a → b' ≡ b → P a b → P a' b'
 subst2 P {a} {a'} {b} {b'} e f h = subst (λ x. P x b') (sym e) (subst (λ y. P a y) (sym f) h)
@@ -171,6 +181,9 @@ told_more b s s' sights replies r h t = record {
   attached = any_more (is_attach b) replies r ∙ (ap (λ a. a || is_attach b r) t.attached ∙ sym h.attached);
   disposed = any_more (is_dispose b) replies r ∙ (ap (λ a. a || is_dispose b r) t.disposed ∙ sym h.disposed);
   disposals = any_more (is_disposal b) replies r ∙ (ap (λ a. a || is_disposal b r) t.disposals ∙ sym h.disposals);
+  attachment = λ here. let live = or_false s.disposed (is_dispose b r) (sym h.disposed ∙ here) in
+      any_more (is_attachment b) replies r ∙ (ap (λ a. a || is_attachment b r) (t.attachment live) ∙ (h.attachment live ∙ sym h.attached));
+  numbered = λ some. any_more (is_attachment b) replies r ∙ or_true (has_attachment b replies) (is_attachment b r) (t.numbered (let c = h.count in omega arith));
   numbers = t.numbers ∙ ap upto (sym h.count);
   below = subst (λ (n : ℕ). NumbersBelow b n sights) (sym h.count) t.below;
   unattached = λ off. h.count ∙ t.unattached (let e = h.attached in grind arith);
@@ -182,6 +195,7 @@ told_more b s s' sights replies r h t = record {
       (λ n e. let k = h.counted n e in let c = h.count in omega arith);
   off = λ n above. missed_more b n s.off s'.off replies r (h.off n (let c = h.count in omega arith)) (t.off n (let c = h.count in omega arith));
   toggled = λ k d below. fits_more b s.count replies r _ h.disables h.enables (t.below k d below) (t.toggled k d below);
+  rising = after_more (IsLater b) replies r t.rising (λ n e. subst (λ (m : ℕ). TogglesUpTo b m replies) (sym (h.counted n e)) t.counted);
   switched = fold-append (off_by b) false replies (r ∷ []) ∙ (ap (λ o. off_by b o r) t.switched ∙ h.switched);
   history = after_more (IsAnswer b) replies r t.history (h.answers replies t.attached t.disposed t.switched);
 }

@@ -216,6 +216,8 @@ tells_none b = record {
   attached = refl;
   disposed = refl;
   disposals = refl;
+  attachment = λ _. refl;
+  numbered = λ some. absurd (omega arith);
   numbers = refl;
   below = all_none (λ s. ForSome (number_in b s) (λ p. p < 0));
   unattached = λ _. refl;
@@ -223,6 +225,7 @@ tells_none b = record {
   counted = all_none (λ r. ForSome (toggle_count b r) (λ n. n ≤ 0));
   off = λ n _. refl;
   toggled = all_none (FitsToggles b []);
+  rising = λ k d below. absurd (omega arith);
   switched = refl;
   history = λ k d below. absurd (omega arith);
 }

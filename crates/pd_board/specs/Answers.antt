@@ -1,11 +1,13 @@
 -- What the answers of a board's calls say of one binding.
-use Rattle.std.specs.Prelude.{ℕ, ◌<◌, ◌≤◌, ◌==◌, Bool, true, false, if◌then◌else◌, List, Option, Some, None}
+use Rattle.std.specs.Prelude.{ℕ, ◌<◌, ◌≤◌, ◌==◌, ◌&&◌, Bool, true, false, if◌then◌else◌, List, Option, Some, None}
 use Rattle.std.specs.Option.{ForSome}
 use Rattle.std.specs.List.{All, list_any}
 use Rattle.pd_board.specs.declared.answers.Known.{Known}
 use Rattle.pd_board.specs.declared.answers.Known.TheVariants as knowns
 use Rattle.pd_board.specs.declared.answers.Drawn.{Drawn}
 use Rattle.pd_board.specs.declared.answers.Drawn.TheVariants as drawns
+use Rattle.pd_board.specs.declared.answers.Attach.{Attach}
+use Rattle.pd_board.specs.declared.answers.Attach.TheVariants as attaches
 use Rattle.pd_board.specs.declared.answers.Dispose.TheVariants as disposes
 use Rattle.pd_board.specs.declared.answers.Toggle.TheVariants as toggles
 use Rattle.pd_board.specs.declared.answers.ActResult.{ActResult}
@@ -52,6 +54,15 @@ abbrev pub is_attach : ℕ → ActResult → Bool
 is_attach b (acts.Attached c _) = c == b
 is_attach b _ = false
 
+-- it says that the binding was attached by it
+abbrev pub is_attached : Attach → Bool
+is_attached attaches.Attached = true
+is_attached _ = false
+
+abbrev pub is_attachment : ℕ → ActResult → Bool
+is_attachment b (acts.Attached c a) = c == b && is_attached a
+is_attachment b _ = false
+
 abbrev pub is_dispose : ℕ → ActResult → Bool
 is_dispose b (acts.Disposed c _) = c == b
 is_dispose b _ = false
@@ -71,9 +82,12 @@ toggle_count b (acts.Enabled c (toggles.At n)) = if c == b then Some n else None
 toggle_count b (acts.Disabled c (toggles.At n)) = if c == b then Some n else None
 toggle_count b _ = None
 
--- the list has an answer of an attach, of a dispose, or of the dispose that disposed it
+-- the list has an answer of an attach, of the attach that attached it, of a dispose, or of the dispose that disposed it
 abbrev pub has_attach : ℕ → List ActResult → Bool
 has_attach b replies = list_any (is_attach b) replies
+
+abbrev pub has_attachment : ℕ → List ActResult → Bool
+has_attachment b replies = list_any (is_attachment b) replies
 
 abbrev pub has_dispose : ℕ → List ActResult → Bool
 has_dispose b replies = list_any (is_dispose b) replies

@@ -15,7 +15,7 @@ use Rattle.pd_board.specs.declared.answers.ActResult.TheVariants as acts
 use Rattle.pd_board.specs.declared.answers.Sight.{Sight}
 use Rattle.pd_board.specs.declared.life.Life.{Life}
 use Rattle.pd_board.specs.Life.{untouched}
-use Rattle.pd_board.specs.Answers.{number_in, NumbersBelow, has_attach, has_dispose, has_disposal, disposal, TogglesUpTo}
+use Rattle.pd_board.specs.Answers.{number_in, NumbersBelow, has_attach, has_attachment, has_dispose, has_disposal, disposal, toggle_count, TogglesUpTo}
 
 -- the numbers below n, rising
 abbrev pub upto : ℕ → List ℕ
@@ -95,11 +95,18 @@ follows b before (acts.Disabled c a) = not (c == b) || switch_follows (has_dispo
 abbrev pub IsAnswer : ℕ → List ActResult → ActResult → Type 0
 IsAnswer b before r = follows b before r ≡ true
 
+-- a toggle found at least as many numbers as each toggle before it
+abbrev pub IsLater : ℕ → List ActResult → ActResult → Type 0
+IsLater b before r = ForSome (toggle_count b r) (λ n. TogglesUpTo b n before)
+
 -- the lists tell this life of the binding
 pub record Tells (b : ℕ) (s : Life) (sights : List Sight) (replies : List ActResult) : Type 0 where
   pub attached : has_attach b replies ≡ s.attached
   pub disposed : has_dispose b replies ≡ s.disposed
   pub disposals : has_disposal b replies ≡ s.disposed
+  -- while it isn't disposed, an attach attached it; and so it is where it has numbers
+  pub attachment : s.disposed ≡ false → has_attachment b replies ≡ s.attached
+  pub numbered : 0 < s.count → has_attachment b replies ≡ true
   -- the numbers are those below the count, each once and rising, and none without an attach
   pub numbers : numbers_of b sights ≡ upto s.count
   pub below : NumbersBelow b s.count sights
@@ -110,6 +117,7 @@ pub record Tells (b : ℕ) (s : Life) (sights : List Sight) (replies : List ActR
   pub counted : TogglesUpTo b s.count replies
   pub off : (n : ℕ) → s.count ≤ n → IsMissed b n s.off replies
   pub toggled : All (FitsToggles b replies) sights
+  pub rising : EachAfter (IsLater b) replies
   -- and each answer is the one that follows from those before it
   pub switched : last_off b replies ≡ s.off
   pub history : EachAfter (IsAnswer b) replies

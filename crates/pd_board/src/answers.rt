@@ -1,4 +1,5 @@
 //! What the calls of a board answer, and what a board keeps of them.
+use pd_values::Items;
 
 /// What a board has learnt of a binding. It goes from `Fresh` to `Attached` to `Disposed`, and never back.
 #[derive(Clone, Copy, Debug, Drop, PartialEq, Eq)]
@@ -82,4 +83,11 @@ pub enum State {
 pub struct BindingTally {
     pub state: State,
     pub count: u64,
+}
+
+/// How each binding ended up, by its number, and how many answers of each session were taken.
+#[derive(Drop)]
+pub struct Tally {
+    pub bindings: Items<BindingTally>,
+    pub answers: Items<u32>,
 }

@@ -1,5 +1,5 @@
 //! The bindings that stand at a node.
-ghost use Rattle.std.specs.Prelude.{◌≡◌, ℕ, ◌<◌, ◌≤◌, ◌/◌, ◌%◌, ◌^◌, ◌==◌, ◌&&◌, not, if◌then◌else◌, false, IsTrue, MatchOption, slice_index};
+ghost use Rattle.std.specs.Prelude.{◌≡◌, ℕ, ◌<◌, ◌≤◌, ◌/◌, ◌%◌, ◌^◌, ◌==◌, ◌&&◌, ◌↔◌, not, if◌then◌else◌, false, IsTrue, MatchOption, slice_index};
 ghost use Rattle.std.specs.Int.{bit_at};
 ghost use Rattle.pd_board.specs.Bits.{IsLeastFrom, IsLowestFrom};
 
@@ -58,9 +58,9 @@ impl Chain {
 
     /// Whether the chain has no binding.
     pub fn is_empty(&self) -> bool
-        ensures none { IsTrue result → (b : ℕ) → has self.now b ≡ false }
+        ensures { IsTrue result ↔ ((b : ℕ) → has self.now b ≡ false) }
     {
-        self.summary == 0
+        self.next_from(0).is_none()
     }
 
     /// The least binding of the chain that is at least `b`, found by operations on words. `None` comes exactly where

@@ -13,7 +13,7 @@ mod session;
 mod tests;
 
 pub use answers::{
-    ActResult, Attach, BindingTally, Dispose, Drawn, Known, Passed, Sight, State, Toggle,
+    ActResult, Attach, BindingTally, Dispose, Drawn, Known, Passed, Sight, State, Tally, Toggle,
 };
 pub use board::Board;
 pub use chain::Chain;

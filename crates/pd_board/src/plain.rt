@@ -1,12 +1,10 @@
 //! The board of one thread.
-ghost use Rattle.std.specs.Prelude.{◌≡◌, ℕ, ◌+◌, ◌<◌, ◌≤◌, ◌^◌, if◌then◌else◌, IfOk, IsTrue, length, slice_index, vec_len};
+ghost use Rattle.std.specs.Prelude.{◌≡◌, ℕ, ◌+◌, ◌<◌, ◌≤◌, ◌^◌, ◌↔◌, if◌then◌else◌, IfOk, IsTrue, length, slice_index, vec_len};
 ghost use Rattle.pd_board.specs.Bound.{IsWithin, OnlyInRows, LiveStand};
 ghost use Rattle.pd_board.specs.Kept.{TellsAll};
 ghost use Rattle.pd_board.specs.Sessions.{IsRead, HasShares};
 
-use crate::answers::{
-    ActResult, Attach, BindingTally, Dispose, Drawn, Known, Passed, Sight, Toggle,
-};
+use crate::answers::{ActResult, Attach, Dispose, Drawn, Known, Passed, Sight, Tally, Toggle};
 use crate::bits::NodeBits;
 use crate::board::Board;
 use crate::chain::Chain;
@@ -140,7 +138,7 @@ impl PlainBoard {
 
     /// Whether no binding of the last load has still to be drawn, passed or swept.
     pub fn nothing_due(&self) -> bool
-        ensures { IsTrue result → NothingDue (standing_of self.now) }
+        ensures { IsTrue result ↔ NothingDue (standing_of self.now) }
     {
         self.due.is_empty()
     }
@@ -161,18 +159,21 @@ impl PlainBoard {
     }
 
     /// The state and the count of each binding, and the number of answers of each session.
-    pub fn tally(&self, alloc: Global) -> Result<(Vec<BindingTally>, Vec<u32>), AllocError>
-        ensures { IfOk result (λ t. IsTally (standing_of self.now) t.0.items t.1.items) }
+    pub fn tally(&self, alloc: Global) -> Result<Tally, AllocError>
+        ensures { IfOk result (λ t. IsTally (standing_of self.now) t.bindings t.answers) }
     {
-        let mut tallies = Vec::new(alloc);
+        let mut bindings = Vec::new(alloc);
         for life in &self.lives {
-            tallies.push(life.tally())?;
+            bindings.push(life.tally())?;
         }
         let mut answers = Vec::new(alloc);
         for word in &self.sessions {
             answers.push(word.taken)?;
         }
-        Ok((tallies, answers))
+        Ok(Tally {
+            bindings: Items::of(bindings),
+            answers: Items::of(answers),
+        })
     }
 }
 

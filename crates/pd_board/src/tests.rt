@@ -1,6 +1,6 @@
 //! Worked sequences of calls.
 ghost use Rattle.std.specs.Prelude.{◌≡◌, ℕ, ◌==◌, ◌&&◌, not, ◌<◌, ◌≤◌, [], ◌∷◌, true, false, IfOk, IfSome, Some};
-ghost use Rattle.pd_board.specs.Answers.{has_attach, has_disposal};
+ghost use Rattle.pd_board.specs.Answers.{has_attachment, has_disposal};
 ghost use Rattle.pd_board.specs.Examples.{worked_sights, worked_replies, toggled_sights, toggled_replies};
 ghost use Rattle.pd_board.specs.Kept.{numbers_of, IsMissed, follows};
 ghost use Rattle.pd_board.specs.Plain.{standing_of};
@@ -18,8 +18,8 @@ use std::test::Fail;
 fn definitions()
     ensures numbers { numbers_of 0 worked_sights ≡ 0 ∷ 1 ∷ [] }
     ensures other { numbers_of 1 worked_sights ≡ [] }
-    ensures state { state_by (has_disposal 0 worked_replies) (has_attach 0 worked_replies) ≡ State.Disposed }
-    ensures untouched { state_by (has_disposal 1 worked_replies) (has_attach 1 worked_replies) ≡ State.Unattached }
+    ensures state { state_by (has_disposal 0 worked_replies) (has_attachment 0 worked_replies) ≡ State.Disposed }
+    ensures untouched { state_by (has_disposal 1 worked_replies) (has_attachment 1 worked_replies) ≡ State.Unattached }
     ensures toggled { numbers_of 0 toggled_sights ≡ 0 ∷ 1 ∷ 2 ∷ [] }
     ensures place { IsMissed 0 0 false toggled_replies }
     ensures missed { IsMissed 0 1 true toggled_replies }
@@ -139,13 +139,13 @@ fn a_binding_from_its_attach_to_its_sweep(rt: HostRuntime) -> Result<(), Fail> {
         drawn: Drawn::On { place: 1 },
     };
     assert_eq!(rt; board.sights().last().copied(), Some(sight));
-    let (tallies, answers) = board.tally(rt.alloc())?;
-    let tally = BindingTally {
+    let tally = board.tally(rt.alloc())?;
+    let disposed = BindingTally {
         state: State::Disposed,
         count: 2,
     };
-    assert_eq!(rt; tallies.as_slice(), [tally].as_slice());
-    assert_eq!(rt; answers.as_slice(), [0].as_slice());
+    assert_eq!(rt; tally.bindings.as_slice(), [disposed].as_slice());
+    assert_eq!(rt; tally.answers.as_slice(), [0].as_slice());
     Ok(())
 }
 

@@ -9,4 +9,5 @@ mod parting;
 mod record;
 mod watch;
 
+pub use heard::Heard;
 pub use record::run_context;
