@@ -1,0 +1,5 @@
+pub mod Pairing
+pub mod Places
+pub mod LogLaws
+pub mod AttachingLaws
+pub mod RunLaws
