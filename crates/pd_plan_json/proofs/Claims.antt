@@ -10,8 +10,8 @@ use Rattle.pd_plan.specs.declared.plan.Action.TheVariants as actions
 use Rattle.pd_plan.specs.declared.plan.Resume.TheVariants.{Continue, Into, Return}
 use Rattle.pd_plan.specs.declared.plan.Plan.{Plan}
 use Rattle.pd_plan_json.specs.Reading.{Read, entry_step}
-use Rattle.pd_plan_json.specs.Shapes.{number_in, reference, text_in, list_in, required, optional, with_default, no_other, one_of}
-use Rattle.pd_plan_json.specs.Tables.{export, breakpoint, pause, condition, first_act, act, wait, first_action, action, given, returning, first_step, stepping, resume, answer}
+use Rattle.pd_plan_json.specs.Shapes.{number_in, reference, text_in, list_in, required, optional, with_default, no_other, table_of, one_of}
+use Rattle.pd_plan_json.specs.Tables.{export, export_members, breakpoint, breakpoint_members, pause, pause_members, condition, first_act, act, wait_members, first_action, action, given, returning, first_step, stepping, resume, answer, answer_members}
 use Rattle.pd_plan_json.specs.References.{each, act_refers, observed, action_refers, session_refers, refers, binding_refers}
 
 -- ---- how the cases are written
@@ -127,7 +127,7 @@ unfolding resume
 words = (refl, refl, refl)
 
 no_then : answer 1 (with_1 (codes "first") (array no_items)) ≡ refused Missing (codes "/then")
-unfolding answer with_default optional required list_in
+unfolding answer_members table_of with_default optional required list_in
 no_then = refl
 
 -- ---- acts and actions
@@ -157,21 +157,21 @@ unfolding action first_action first_act one_of optional no_other reference
 dispose_in_2 = refl
 
 waits : action 1 (with_1 (codes "await") (with_2 (codes "count") (whole 1) (codes "turns") (whole 1000000))) ≡ Ok (actions.Await 1 1000000)
-unfolding action first_action wait one_of required optional no_other number_in
+unfolding action first_action wait_members table_of one_of required optional no_other number_in
 waits = refl
 
 waits_long : action 1 (with_1 (codes "await") (with_2 (codes "count") (whole 1) (codes "turns") (whole 1000001))) ≡ refused OutOfRange (codes "/await/turns")
-unfolding action first_action wait one_of required optional number_in
+unfolding action first_action wait_members table_of one_of required optional number_in
 waits_long = refl
 
 -- ---- breakpoints, pauses and exports
 
 plain_break : breakpoint (with_3 (codes "line") (whole 9) (codes "session") (whole 1) (codes "source") (whole 0)) ≡ Ok (bindings.Break (record { session = 1; source = 0; line = 9; condition = None; ignore = 0; one_shot = false }))
-unfolding breakpoint required optional with_default no_other number_in reference
+unfolding breakpoint_members table_of required optional with_default no_other number_in reference
 plain_break = refl
 
 break_line : breakpoint (with_3 (codes "line") (whole 1048578) (codes "session") (whole 1) (codes "source") (whole 0)) ≡ refused OutOfRange (codes "/line")
-unfolding breakpoint required number_in reference
+unfolding breakpoint_members table_of required number_in reference
 break_line = refl
 
 no_condition : condition (text []) ≡ refused OutOfRange []
@@ -183,11 +183,11 @@ unfolding condition
 a_condition = refl
 
 a_pause : pause (with_1 (codes "session") (whole 2)) ≡ Ok (bindings.Pause 2)
-unfolding pause required no_other reference
+unfolding pause_members table_of required no_other reference
 a_pause = refl
 
 no_item : export (with_2 (codes "name") (text (codes "f")) (codes "source") (whole 0)) ≡ refused Missing (codes "/item")
-unfolding export required text_in reference
+unfolding export_members table_of required text_in reference
 no_item = refl
 
 -- ---- references

@@ -16,9 +16,10 @@ use Rattle.pd_plan.specs.declared.plan.Resume.TheVariants.{Continue, Into, Over,
 use Rattle.pd_plan.specs.Sound.{IsFrom, ListFits, Any, ContextFits, LinesFit, FilterFits, BindingFits, ActionFits, IsSigned64, ValueFits, ResumeFits, AnswerFits, SessionFits, PlanFits}
 use Rattle.pd_plan_json.specs.declared.bindings.Kind.{Kind}
 use Rattle.pd_plan_json.specs.declared.bindings.Kind.TheVariants as kinds
+use Rattle.pd_plan_json.specs.Served.{Observes, OnlyAttaches}
 use Rattle.pd_plan_json.specs.Reading.{Read, ◌>>=◌, ◌>>◌, refuse, refuse_if, under, member_step, entry_step}
-use Rattle.pd_plan_json.specs.Shapes.{present, an_object, no_other, one_of, or_else, optional_as, outside, signed, signed_in, truth, items, whole, or_missing, if_there, number_in, reference, required, optional, with_default, list_in, entries, count, meaning}
-use Rattle.pd_plan_json.specs.Tables.{name, tag, pair, condition, kind, context, lines, filter, observer, breakpoint, pause, binding, binding_of, first_act, act, wait, first_action, action, given, frame_and_value, returning, steps, first_step, stepping, resume, answer, session, source, export, plan}
+use Rattle.pd_plan_json.specs.Shapes.{present, chars, an_object, no_other, table_of, one_of, or_else, optional_as, outside, signed, signed_in, truth, items, whole, or_missing, if_there, number_in, reference, required, optional, with_default, list_in, entries, count, meaning}
+use Rattle.pd_plan_json.specs.Tables.{name, tag, pair, condition, kind, kind_of, context, context_members, lines, filter, filter_members, observer, observer_members, breakpoint, breakpoint_members, pause, pause_members, binding, binding_of, first_act, act, wait, wait_members, first_action, action, given, frame_and_value, returning, steps, first_step, stepping, resume, answer, answer_members, session, session_members, source, export, plan, plan_members}
 
 -- ---- what an answered chain has answered
 
@@ -131,6 +132,12 @@ one_fits names unserved reader P k d x e =
     let a = bind_ok (reader d) _ x (then_ok (refuse_if (nat_lt 0 (present unserved d)) NotBuilt) _ x (then_ok (refuse_if (not (present names d == 1)) WrongShape) _ x (then_ok (an_object d) _ x e))) in
     ok_is P a.0 x (Ok a.0) refl (then_ok (no_other names d) _ x a.2) (k d a.0 a.1)
 
+table_keeps : {A : Type 0} (names : List (List ℕ)) (inner : Data → Read A) (P : A → Type 0) → Keeps inner P → Keeps (table_of names inner) P
+unfolding table_of
+table_keeps names inner P k d x e =
+    let a = bind_ok (inner d) _ x (then_ok (an_object d) _ x e) in
+    ok_is P a.0 x (Ok a.0) refl (then_ok (no_other names d) _ x a.2) (k d a.0 a.1)
+
 or_else_fits : {A : Type 0} (P : A → Type 0) (r : Read (Option A)) (rest : Read A) → ((o : Option A) → r ≡ Ok o → IfSome o P) → ((x : A) → rest ≡ Ok x → P x) → (x : A) → or_else r rest ≡ Ok x → P x
 or_else_fits P (Ok (Some y)) rest h k x e = ok_is P y x (Ok y) refl e (h (Some y) refl)
 or_else_fits P (Ok None) rest h k x e = k x e
@@ -166,14 +173,17 @@ million_fits name = required_keeps name (number_in 1 1000000) (IsFrom 1 1000000)
 
 -- ---- the tables
 
-context_fits : Keeps context ContextFits
-unfolding context
-context_fits d x e =
-    let b = bind_ok (required (codes "source") reference d) _ x (then_ok _ _ x e) in
+context_members_fits : Keeps context_members ContextFits
+unfolding context_members
+context_members_fits d x e =
+    let b = bind_ok (required (codes "source") reference d) _ x e in
     let c = bind_ok (with_default (codes "entry") (codes "main") name d) _ x b.2 in
     let f = bind_ok (with_default (codes "fuel") 1000000 (number_in 1 16777216) d) _ x c.2 in
     let fuel = default_keeps (codes "fuel") 1000000 (number_in 1 16777216) (IsFrom 1 16777216) fuel_fits (number_fits 1 16777216) d f.0 f.1 in
-    ok_is ContextFits (record { source = b.0; entry = c.0; fuel = f.0 }) x _ refl (then_ok _ _ x f.2) (record { fuel = fuel })
+    ok_is ContextFits (record { source = b.0; entry = c.0; fuel = f.0 }) x _ refl f.2 (record { fuel = fuel })
+
+context_fits : Keeps context ContextFits
+context_fits = table_keeps _ context_members ContextFits context_members_fits
 
 lines_fit : Keeps lines LinesFit
 unfolding lines
@@ -185,15 +195,15 @@ lines_fit d x e =
     let to = bind_under_ok (entry_step 1) (outside 1 1048577 p.0.1) _ x from.1 in
     ok_is LinesFit (record { from = p.0.0; to = p.0.1 }) x _ refl to.1 (record { order = not_below p.0.1 p.0.0 order.0; from = in_range 1 1048577 p.0.0 from.0; to = in_range 1 1048577 p.0.1 to.0 })
 
-filter_fits : Keeps filter FilterFits
-unfolding filter
-filter_fits d x e =
-    let a = bind_ok (with_default (codes "tags") [] (list_in 1 64 64 tag) d) _ x (then_ok _ _ x e) in
+filter_members_fits : Keeps filter_members FilterFits
+unfolding filter_members
+filter_members_fits d x e =
+    let a = bind_ok (with_default (codes "tags") [] (list_in 1 64 64 tag) d) _ x e in
     let b = bind_ok (with_default (codes "not_tags") [] (list_in 1 64 64 tag) d) _ x a.2 in
     let c = bind_ok (with_default (codes "sources") [] (list_in 1 64 64 reference) d) _ x b.2 in
     let l = bind_ok (with_default (codes "lines") [] (list_in 1 64 64 lines) d) _ x c.2 in
     let r = bind_ok (with_default (codes "roots") [] (list_in 1 64 64 name) d) _ x l.2 in
-    ok_is FilterFits (record { tags = a.0; not_tags = b.0; sources = c.0; lines = l.0; roots = r.0 }) x _ refl (then_ok _ _ x r.2) (record {
+    ok_is FilterFits (record { tags = a.0; not_tags = b.0; sources = c.0; lines = l.0; roots = r.0 }) x _ refl r.2 (record {
       tags = listed (codes "tags") 1 64 64 tag Any (anything tag) d a.0 a.1;
       not_tags = listed (codes "not_tags") 1 64 64 tag Any (anything tag) d b.0 b.1;
       sources = listed (codes "sources") 1 64 64 reference Any (anything reference) d c.0 c.1;
@@ -201,15 +211,21 @@ filter_fits d x e =
       roots = listed (codes "roots") 1 64 64 name Any (anything name) d r.0 r.1;
     })
 
-observer_fits : Keeps observer BindingFits
-unfolding observer
-observer_fits d x e =
-    let f = bind_ok (required (codes "filter") filter d) _ x e in
-    ok_is BindingFits (bindings.Observe f.0) x _ refl (then_ok _ _ x f.2) (required_keeps (codes "filter") filter FilterFits filter_fits d f.0 f.1)
+filter_fits : Keeps filter FilterFits
+filter_fits = table_keeps _ filter_members FilterFits filter_members_fits
 
-breakpoint_fits : Keeps breakpoint BindingFits
-unfolding breakpoint
-breakpoint_fits d x e =
+observer_members_fits : Keeps observer_members BindingFits
+unfolding observer_members
+observer_members_fits d x e =
+    let f = bind_ok (required (codes "filter") filter d) _ x e in
+    ok_is BindingFits (bindings.Observe f.0) x _ refl f.2 (required_keeps (codes "filter") filter FilterFits filter_fits d f.0 f.1)
+
+observer_fits : Keeps observer BindingFits
+observer_fits = table_keeps _ observer_members BindingFits observer_members_fits
+
+breakpoint_members_fits : Keeps breakpoint_members BindingFits
+unfolding breakpoint_members
+breakpoint_members_fits d x e =
     let s = bind_ok (required (codes "session") reference d) _ x e in
     let o = bind_ok (required (codes "source") reference d) _ x s.2 in
     let l = bind_ok (required (codes "line") (number_in 1 1048577) d) _ x o.2 in
@@ -218,13 +234,19 @@ breakpoint_fits d x e =
     let t = bind_ok (with_default (codes "one_shot") false truth d) _ x i.2 in
     let line = required_keeps (codes "line") (number_in 1 1048577) (IsFrom 1 1048577) (number_fits 1 1048577) d l.0 l.1 in
     let ignore = default_keeps (codes "ignore") 0 (number_in 0 1000000) (IsFrom 0 1000000) zero_fits (number_fits 0 1000000) d i.0 i.1 in
-    ok_is BindingFits (bindings.Break (record { session = s.0; source = o.0; line = l.0; condition = c.0; ignore = i.0; one_shot = t.0 })) x _ refl (then_ok _ _ x t.2) (record { line = line; ignore = ignore })
+    ok_is BindingFits (bindings.Break (record { session = s.0; source = o.0; line = l.0; condition = c.0; ignore = i.0; one_shot = t.0 })) x _ refl t.2 (record { line = line; ignore = ignore })
+
+breakpoint_fits : Keeps breakpoint BindingFits
+breakpoint_fits = table_keeps _ breakpoint_members BindingFits breakpoint_members_fits
+
+pause_members_fits : Keeps pause_members BindingFits
+unfolding pause_members
+pause_members_fits d x e =
+    let s = bind_ok (required (codes "session") reference d) _ x e in
+    ok_is BindingFits (bindings.Pause s.0) x _ refl s.2 tt
 
 pause_fits : Keeps pause BindingFits
-unfolding pause
-pause_fits d x e =
-    let s = bind_ok (required (codes "session") reference d) _ x e in
-    ok_is BindingFits (bindings.Pause s.0) x _ refl (then_ok _ _ x s.2) tt
+pause_fits = table_keeps _ pause_members BindingFits pause_members_fits
 
 binding_of_fits : (k : Kind) → Keeps (binding_of k) BindingFits
 binding_of_fits kinds.Observe = observer_fits
@@ -237,12 +259,15 @@ binding_fits d x e =
     let k = bind_ok (required (codes "kind") kind d) _ x (then_ok _ _ x e) in
     binding_of_fits k.0 d x k.2
 
-wait_fits : Keeps wait ActionFits
-unfolding wait
-wait_fits d x e =
-    let n = bind_ok (required (codes "count") (number_in 1 1000000) d) _ x (then_ok _ _ x e) in
+wait_members_fits : Keeps wait_members ActionFits
+unfolding wait_members
+wait_members_fits d x e =
+    let n = bind_ok (required (codes "count") (number_in 1 1000000) d) _ x e in
     let t = bind_ok (required (codes "turns") (number_in 1 1000000) d) _ x n.2 in
-    ok_is ActionFits (actions.Await n.0 t.0) x _ refl (then_ok _ _ x t.2) (million_fits (codes "count") d n.0 n.1, million_fits (codes "turns") d t.0 t.1)
+    ok_is ActionFits (actions.Await n.0 t.0) x _ refl t.2 (million_fits (codes "count") d n.0 n.1, million_fits (codes "turns") d t.0 t.1)
+
+wait_fits : Keeps wait ActionFits
+wait_fits = table_keeps _ wait_members ActionFits wait_members_fits
 
 first_action_fits : Keeps first_action ActionFits
 unfolding first_action
@@ -338,41 +363,121 @@ resume_fits version (number n) x e = stepping_fits version (number n) x e
 resume_fits version (array ds) x e = stepping_fits version (array ds) x e
 resume_fits version (object ms) x e = stepping_fits version (object ms) x e
 
-answer_fits : (version : ℕ) → Keeps (answer version) AnswerFits
-unfolding answer
-answer_fits version d x e =
-    let f = bind_ok (with_default (codes "first") [] (list_in 0 64 64 (act version)) d) _ x (then_ok _ _ x e) in
+answer_members_fits : (version : ℕ) → Keeps (answer_members version) AnswerFits
+unfolding answer_members
+answer_members_fits version d x e =
+    let f = bind_ok (with_default (codes "first") [] (list_in 0 64 64 (act version)) d) _ x e in
     let n = bind_ok (required (codes "then") (resume version) d) _ x f.2 in
-    ok_is AnswerFits (record { first = f.0; resume = n.0 }) x _ refl (then_ok _ _ x n.2) (record {
+    ok_is AnswerFits (record { first = f.0; resume = n.0 }) x _ refl n.2 (record {
       first = listed (codes "first") 0 64 64 (act version) Any (anything (act version)) d f.0 f.1;
       resume = required_keeps (codes "then") (resume version) ResumeFits (resume_fits version) d n.0 n.1;
     })
 
-session_fits : (version : ℕ) → Keeps (session version) SessionFits
-unfolding session
-session_fits version d x e =
-    let b = bind_ok (with_default (codes "before") [] (list_in 0 4096 4096 reference) d) _ x (then_ok _ _ x e) in
+answer_fits : (version : ℕ) → Keeps (answer version) AnswerFits
+answer_fits version = table_keeps _ (answer_members version) AnswerFits (answer_members_fits version)
+
+-- a list with no more entries than are served
+list_served : {A : Type 0} (low high built : ℕ) (reader : Data → Read A) → Keeps (list_in low high built reader) (λ xs. length xs ≤ built)
+unfolding list_in
+list_served low high built reader d x e =
+    let a = bind_ok (items d) _ x e in
+    let b = tested_ok (outside low high (count a.0)) OutOfRange _ x a.2 in
+    let c = tested_ok (nat_lt built (count a.0)) NotBuilt _ x b.1 in
+    let g = entries_fit reader Any (anything reader) 0 a.0 x c.1 in
+    let most : count a.0 ≤ built = not_below built (count a.0) c.0 in
+    subst (λ n. n ≤ built) (sym g.0) most
+
+none_of : {A : Type 0} (xs : List A) → length xs ≤ 0 → xs ≡ []
+none_of [] h = refl
+none_of (x ∷ xs) h = absurd (omega arith)
+
+-- a list member of which no entry is served
+unserved : {A : Type 0} (name : List ℕ) (high : ℕ) (reader : Data → Read A) → Keeps (with_default name [] (list_in 0 high 0 reader)) (λ xs. xs ≡ [])
+unserved name high reader = default_keeps name [] (list_in 0 high 0 reader) (λ xs. xs ≡ []) refl (λ d x e. none_of x (list_served 0 high 0 reader d x e))
+
+session_members_keeps : (version : ℕ) → Keeps (session_members version) (λ s. SessionFits s × OnlyAttaches s)
+unfolding session_members
+session_members_keeps version d x e =
+    let b = bind_ok (with_default (codes "before") [] (list_in 0 4096 4096 reference) d) _ x e in
     let a = bind_ok (with_default (codes "actions") [] (list_in 0 1000 0 (action version)) d) _ x b.2 in
     let w = bind_ok (with_default (codes "answers") [] (list_in 0 10000 0 (answer version)) d) _ x a.2 in
-    ok_is SessionFits (record { before = b.0; actions = a.0; answers = w.0 }) x _ refl (then_ok _ _ x w.2) (record {
-      before = listed (codes "before") 0 4096 4096 reference Any (anything reference) d b.0 b.1;
-      actions = listed (codes "actions") 0 1000 0 (action version) ActionFits (action_fits version) d a.0 a.1;
-      answers = listed (codes "answers") 0 10000 0 (answer version) AnswerFits (answer_fits version) d w.0 w.1;
-    })
+    ok_is (λ s. SessionFits s × OnlyAttaches s) (record { before = b.0; actions = a.0; answers = w.0 }) x _ refl w.2 (
+      record {
+        before = listed (codes "before") 0 4096 4096 reference Any (anything reference) d b.0 b.1;
+        actions = listed (codes "actions") 0 1000 0 (action version) ActionFits (action_fits version) d a.0 a.1;
+        answers = listed (codes "answers") 0 10000 0 (answer version) AnswerFits (answer_fits version) d w.0 w.1;
+      },
+      record {
+        actions = unserved (codes "actions") 1000 (action version) d a.0 a.1;
+        answers = unserved (codes "answers") 10000 (answer version) d w.0 w.1;
+      },
+    )
 
-pub plan_fits : Keeps plan PlanFits
-unfolding plan
-plan_fits d x e =
-    let v = bind_ok (required (codes "version") (number_in 1 2) d) _ x (then_ok _ _ x e) in
-    let s = bind_ok (required (codes "sources") (list_in 1 16 1 source) d) _ x v.2 in
-    let m = bind_ok (with_default (codes "exports") [] (list_in 0 256 0 export) d) _ x s.2 in
+session_keeps : (version : ℕ) → Keeps (session version) (λ s. SessionFits s × OnlyAttaches s)
+session_keeps version = table_keeps _ (session_members version) (λ s. SessionFits s × OnlyAttaches s) (session_members_keeps version)
+
+session_fits : (version : ℕ) → Keeps (session version) SessionFits
+session_fits version d x e = (session_keeps version d x e).0
+
+session_attaches : (version : ℕ) → Keeps (session version) OnlyAttaches
+session_attaches version d x e = (session_keeps version d x e).1
+
+-- the bindings that are served
+observes : (x : Kind) → ◌≡◌ {A = Read Kind} (Ok kinds.Observe) (Ok x) → x ≡ kinds.Observe
+observes x e = cc
+
+no_kind : (x : Kind) → ◌≡◌ {A = Read Kind} (refuse NotBuilt) (Ok x) → x ≡ kinds.Observe
+no_kind x e = absurd cc
+
+kind_observes : Keeps kind (λ k. k ≡ kinds.Observe)
+unfolding kind
+kind_observes d x e =
+    let s = bind_ok (chars d) kind_of x e in
+    means (λ k. k ≡ kinds.Observe) ((codes "observe", Ok kinds.Observe) ∷ (codes "break", refuse NotBuilt) ∷ (codes "pause", refuse NotBuilt) ∷ []) (observes, (no_kind, (no_kind, tt))) s.0 x s.2
+
+observer_members_observes : Keeps observer_members Observes
+unfolding observer_members
+observer_members_observes d x e =
+    let f = bind_ok (required (codes "filter") filter d) _ x e in
+    ok_is Observes (bindings.Observe f.0) x _ refl f.2 tt
+
+observer_observes : Keeps observer Observes
+observer_observes = table_keeps _ observer_members Observes observer_members_observes
+
+binding_observes : Keeps binding Observes
+unfolding binding
+binding_observes d x e =
+    let k = bind_ok (required (codes "kind") kind d) _ x (then_ok _ _ x e) in
+    let is : k.0 ≡ kinds.Observe = required_keeps (codes "kind") kind (λ k. k ≡ kinds.Observe) kind_observes d k.0 k.1 in
+    observer_observes d x (subst (λ k. binding_of k d ≡ Ok x) is k.2)
+
+one_context : {A : Type 0} (P : A → Type 0) (xs : List A) → ListFits 1 16 P xs → length xs ≤ 1 → length xs ≡ 1
+one_context P xs fits most = let least : 1 ≤ length xs = fits.len.0 in omega arith
+
+plan_members_keeps : Keeps plan_members (λ p. PlanFits p × (length p.contexts ≡ 1) × AllByRecursion Observes p.bindings × AllByRecursion OnlyAttaches p.sessions)
+unfolding plan_members
+plan_members_keeps d x e =
+    let v = bind_ok (required (codes "version") (number_in 1 2) d) _ x e in
+    let s = bind_ok (required (codes "sources") (list_in 1 16 16 source) d) _ x v.2 in
+    let m = bind_ok (with_default (codes "exports") [] (list_in 0 256 256 export) d) _ x s.2 in
     let c = bind_ok (required (codes "contexts") (list_in 1 16 1 context) d) _ x m.2 in
     let b = bind_ok (with_default (codes "bindings") [] (list_in 0 4096 4096 binding) d) _ x c.2 in
     let t = bind_ok (with_default (codes "sessions") [] (list_in 0 16 16 (session v.0)) d) _ x b.2 in
-    ok_is PlanFits (record { sources = s.0; exports = m.0; contexts = c.0; bindings = b.0; sessions = t.0 }) x _ refl (then_ok _ _ x t.2) (record {
-      sources = required_keeps (codes "sources") (list_in 1 16 1 source) (ListFits 1 16 Any) (list_fits 1 16 1 source Any (anything source)) d s.0 s.1;
-      exports = listed (codes "exports") 0 256 0 export Any (anything export) d m.0 m.1;
-      contexts = required_keeps (codes "contexts") (list_in 1 16 1 context) (ListFits 1 16 ContextFits) (list_fits 1 16 1 context ContextFits context_fits) d c.0 c.1;
-      bindings = listed (codes "bindings") 0 4096 4096 binding BindingFits binding_fits d b.0 b.1;
-      sessions = listed (codes "sessions") 0 16 16 (session v.0) SessionFits (session_fits v.0) d t.0 t.1;
-    })
+    let contexts = required_keeps (codes "contexts") (list_in 1 16 1 context) (ListFits 1 16 ContextFits) (list_fits 1 16 1 context ContextFits context_fits) d c.0 c.1 in
+    let most = required_keeps (codes "contexts") (list_in 1 16 1 context) (λ xs. length xs ≤ 1) (list_served 1 16 1 context) d c.0 c.1 in
+    ok_is (λ p. PlanFits p × (length p.contexts ≡ 1) × AllByRecursion Observes p.bindings × AllByRecursion OnlyAttaches p.sessions) (record { sources = s.0; exports = m.0; contexts = c.0; bindings = b.0; sessions = t.0 }) x _ refl t.2 (
+      record {
+        sources = required_keeps (codes "sources") (list_in 1 16 16 source) (ListFits 1 16 Any) (list_fits 1 16 16 source Any (anything source)) d s.0 s.1;
+        exports = listed (codes "exports") 0 256 256 export Any (anything export) d m.0 m.1;
+        contexts = contexts;
+        bindings = listed (codes "bindings") 0 4096 4096 binding BindingFits binding_fits d b.0 b.1;
+        sessions = listed (codes "sessions") 0 16 16 (session v.0) SessionFits (session_fits v.0) d t.0 t.1;
+      },
+      one_context ContextFits c.0 contexts most,
+      (listed (codes "bindings") 0 4096 4096 binding Observes binding_observes d b.0 b.1).all,
+      (listed (codes "sessions") 0 16 16 (session v.0) OnlyAttaches (session_attaches v.0) d t.0 t.1).all,
+    )
+
+pub plan_keeps : Keeps plan (λ p. PlanFits p × (length p.contexts ≡ 1) × AllByRecursion Observes p.bindings × AllByRecursion OnlyAttaches p.sessions)
+unfolding plan
+plan_keeps = table_keeps _ plan_members (λ p. PlanFits p × (length p.contexts ≡ 1) × AllByRecursion Observes p.bindings × AllByRecursion OnlyAttaches p.sessions) plan_members_keeps

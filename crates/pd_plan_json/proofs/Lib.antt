@@ -4,4 +4,5 @@ pub mod Bytes
 pub mod Numbers
 pub mod Fits
 pub mod Refers
+pub mod Served
 mod Claims

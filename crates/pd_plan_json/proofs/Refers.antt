@@ -3,18 +3,19 @@ use Rattle.std.proofs.Common.{◌≡◌, ℕ, suc, ◌<◌, List, [], ◌∷◌,
 use Rattle.std.specs.Prelude.{⊤}
 use Rattle.std.specs.List.{AllByRecursion}
 use Rattle.std.proofs.lemmas.Bool.Decides.{nat_tests}
+use Rattle.serde_json.specs.Data.{Data}
 use Rattle.pd_plan.specs.declared.refusal.PlanRule.TheVariants.{NoSuch, NotAnObserver}
 use Rattle.pd_plan.specs.declared.plan.BindingSpec.{BindingSpec}
 use Rattle.pd_plan.specs.declared.plan.BindingSpec.TheVariants.{Observe, Break, Pause}
 use Rattle.pd_plan.specs.declared.plan.Act.TheVariants.{Attach, Dispose, Enable, Disable}
 use Rattle.pd_plan.specs.declared.plan.Action.TheVariants as actions
 use Rattle.pd_plan.specs.declared.plan.Plan.{Plan}
-use Rattle.pd_plan.specs.Sound.{AllBelow, IsObserver, BreakRefers, BindingRefers, ActRefers, ActionRefers, AnswerRefers, SessionRefers, PlanRefers, IsSound}
+use Rattle.pd_plan.specs.Sound.{AllBelow, IsObserver, BreakRefers, BindingRefers, ActRefers, ActionRefers, AnswerRefers, SessionRefers, PlanRefers}
 use Rattle.pd_plan_json.specs.Reading.{Read, ◌>>◌, refuse_if, under, member_step, entry_step}
 use Rattle.pd_plan_json.specs.References.{had, within, each, each_from, export_refers, context_refers, filter_refers, break_refers, binding_refers, act_refers, action_refers, answer_refers, session_refers, is_observer, observed, refers}
 use Rattle.pd_plan_json.specs.Tables.{plan}
 use Rattle.pd_plan_json.specs.Whole.{plan_of, plan_at, data_of}
-use Rattle.pd_plan_json.proofs.Fits.{bind_ok, under_ok, plan_fits}
+use Rattle.pd_plan_json.proofs.Fits.{bind_ok, under_ok}
 
 abbrev Shows : {A : Type 0} → (A → Read ⊤) → (A → Type 0) → Type 0
 Shows {A} rule P = (x : A) → rule x ≡ Ok tt → P x
@@ -128,11 +129,11 @@ referred_ok : (r : Read ⊤) (p x : Plan) → (r >> Ok p) ≡ Ok x → (r ≡ Ok
 referred_ok (Ok tt) p x e = (refl, cc)
 referred_ok (Err r) p x e = absurd cc
 
--- what is read is sound
-pub plan_is_sound : (bytes : List ℕ) (p : Plan) → plan_at bytes ≡ Ok p → IsSound p
+-- what is read refers to what it has, and is what the walk of the value gave
+pub plan_refers : (bytes : List ℕ) (p : Plan) → plan_at bytes ≡ Ok p → (d : Data) × (plan d ≡ Ok p) × PlanRefers p
 unfolding plan_at plan_of
-plan_is_sound bytes p e =
+plan_refers bytes p e =
     let d = bind_ok (data_of bytes) plan_of p e in
     let q = bind_ok (plan d.0) _ p d.2 in
     let r = referred_ok (refers q.0) q.0 p q.2 in
-    subst IsSound r.1 (record { fits = plan_fits d.0 q.0 q.1; refers = plan_shows q.0 r.0 })
+    subst (λ p. (d : Data) × (plan d ≡ Ok p) × PlanRefers p) r.1 (d.0, q.1, plan_shows q.0 r.0)

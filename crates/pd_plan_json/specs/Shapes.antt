@@ -119,6 +119,14 @@ no_other names d = do
   ms ← members d
   refuse_if (not (are_among names ms)) UnknownMember
 
+-- an object of a table: its members, as `inner` reads them in order, and no other
+unfoldable pub table_of : {A : Type 0} → List (List ℕ) → (Data → Read A) → Data → Read A
+table_of names inner d = do
+  an_object d
+  x ← inner d
+  no_other names d
+  Ok x
+
 -- how many of these members are there
 abbrev pub present : List (List ℕ) → Data → ℕ
 present names d = count_by (λ name. is_some (get name d)) names

@@ -1,6 +1,6 @@
--- The tables of a plan: the members of each object, in order. A list has at least the first and at most the second
--- number of entries, of which at most the third are served yet. What isn't served yet is `NotBuilt` at its value, after
--- the value's other rules and before the next value.
+-- The tables of a plan: the members of each object, in order, and the names that the object may have. A list has at least
+-- the first and at most the second number of entries, of which at most the third are served yet. What isn't served yet is
+-- `NotBuilt` at its value, after the value's other rules and before the next value.
 use Rattle.std.specs.Prelude.{ℕ, ◌==◌, if◌then◌else◌, List, [], ◌∷◌, length, Ok, codes, nat_lt, false}
 use Rattle.serde_json.specs.Data.{Data, null, boolean, number, string, array, object, Items, no_items, item}
 use Rattle.pd_values.specs.declared.value.Value.{Value}
@@ -8,7 +8,7 @@ use Rattle.pd_values.specs.declared.value.Value.TheVariants as values
 use Rattle.pd_plan.specs.declared.refusal.PlanRule.TheVariants.{WrongShape, OutOfRange, NotBuilt}
 use Rattle.pd_plan.specs.declared.condition.Condition.{Condition}
 use Rattle.pd_plan.specs.declared.plan.Language.{Language}
-use Rattle.pd_plan.specs.declared.plan.Language.TheVariants.{Sl}
+use Rattle.pd_plan.specs.declared.plan.Language.TheVariants.{Sl, Pl0}
 use Rattle.pd_values.specs.declared.value.Tag.{Tag}
 use Rattle.pd_values.specs.declared.value.Tag.TheVariants.{Statement, Call, Root, RootBody, Expression, ReadVariable, WriteVariable, AlwaysHalt}
 use Rattle.pd_plan.specs.declared.plan.SourceSpec.{SourceSpec}
@@ -30,42 +30,45 @@ use Rattle.pd_plan.specs.declared.plan.Plan.{Plan}
 use Rattle.pd_plan_json.specs.declared.bindings.Kind.{Kind}
 use Rattle.pd_plan_json.specs.declared.bindings.Kind.TheVariants as kinds
 use Rattle.pd_plan_json.specs.Reading.{Read, ◌>>=◌, ◌>>◌, refuse, refuse_if, under, entry_step}
-use Rattle.pd_plan_json.specs.Shapes.{outside, whole, signed, truth, chars, items, an_object, number_in, reference, text_in, meaning, list_in, required, optional, with_default, no_other, one_of, optional_as, or_else}
+use Rattle.pd_plan_json.specs.Shapes.{outside, whole, signed, truth, chars, items, an_object, number_in, reference, text_in, meaning, list_in, required, optional, with_default, table_of, one_of, optional_as, or_else}
 
 abbrev pub name : Data → Read (List ℕ)
 name = text_in 1 255
 
 abbrev pub language_of : List ℕ → Read Language
-language_of = meaning ((codes "sl", Ok Sl) ∷ (codes "pl0", refuse NotBuilt) ∷ [])
+language_of = meaning ((codes "sl", Ok Sl) ∷ (codes "pl0", Ok Pl0) ∷ [])
 
 unfoldable pub language : Data → Read Language
 language d = chars d >>= language_of
 
-unfoldable pub source : Data → Read SourceSpec
-source d = do
-  an_object d
+unfoldable pub source_members : Data → Read SourceSpec
+source_members d = do
   called ← required (codes "name") name d
   language ← required (codes "language") language d
-  no_other (codes "name" ∷ codes "language" ∷ []) d
   Ok (record { name = called; language = language })
 
-unfoldable pub export : Data → Read ExportSpec
-export d = do
-  an_object d
+abbrev pub source : Data → Read SourceSpec
+source = table_of (codes "name" ∷ codes "language" ∷ []) source_members
+
+unfoldable pub export_members : Data → Read ExportSpec
+export_members d = do
   called ← required (codes "name") name d
   source ← required (codes "source") reference d
   procedure ← required (codes "item") name d
-  no_other (codes "name" ∷ codes "source" ∷ codes "item" ∷ []) d
   Ok (record { name = called; source = source; item = procedure })
 
-unfoldable pub context : Data → Read ContextSpec
-context d = do
-  an_object d
+abbrev pub export : Data → Read ExportSpec
+export = table_of (codes "name" ∷ codes "source" ∷ codes "item" ∷ []) export_members
+
+unfoldable pub context_members : Data → Read ContextSpec
+context_members d = do
   source ← required (codes "source") reference d
   entry ← with_default (codes "entry") (codes "main") name d
   fuel ← with_default (codes "fuel") 1000000 (number_in 1 16777216) d
-  no_other (codes "source" ∷ codes "entry" ∷ codes "fuel" ∷ []) d
   Ok (record { source = source; entry = entry; fuel = fuel })
+
+abbrev pub context : Data → Read ContextSpec
+context = table_of (codes "source" ∷ codes "entry" ∷ codes "fuel" ∷ []) context_members
 
 abbrev pub tag_of : List ℕ → Read Tag
 tag_of = meaning ((codes "Statement", Ok Statement) ∷ (codes "Call", Ok Call) ∷ (codes "Root", Ok Root) ∷ (codes "RootBody", Ok RootBody) ∷ (codes "Expression", Ok Expression) ∷ (codes "ReadVariable", Ok ReadVariable) ∷ (codes "WriteVariable", Ok WriteVariable) ∷ (codes "AlwaysHalt", Ok AlwaysHalt) ∷ [])
@@ -90,16 +93,17 @@ lines d = do
   under (entry_step 1) (refuse_if (outside 1 1048577 p.1) OutOfRange)
   Ok (record { from = p.0; to = p.1 })
 
-unfoldable pub filter : Data → Read Filter
-filter d = do
-  an_object d
+unfoldable pub filter_members : Data → Read Filter
+filter_members d = do
   tags ← with_default (codes "tags") [] (list_in 1 64 64 tag) d
   not_tags ← with_default (codes "not_tags") [] (list_in 1 64 64 tag) d
   sources ← with_default (codes "sources") [] (list_in 1 64 64 reference) d
   ranges ← with_default (codes "lines") [] (list_in 1 64 64 lines) d
   roots ← with_default (codes "roots") [] (list_in 1 64 64 name) d
-  no_other (codes "tags" ∷ codes "not_tags" ∷ codes "sources" ∷ codes "lines" ∷ codes "roots" ∷ []) d
   Ok (record { tags = tags; not_tags = not_tags; sources = sources; lines = ranges; roots = roots })
+
+abbrev pub filter : Data → Read Filter
+filter = table_of (codes "tags" ∷ codes "not_tags" ∷ codes "sources" ∷ codes "lines" ∷ codes "roots" ∷ []) filter_members
 
 -- the condition of a breakpoint, of 1 to 1000 bytes
 unfoldable pub condition : Data → Read Condition
@@ -108,31 +112,34 @@ condition d = do
   refuse_if (outside 1 1000 (length s)) OutOfRange
   refuse NotBuilt
 
-unfoldable pub observer : Data → Read BindingSpec
-observer d = do
+unfoldable pub observer_members : Data → Read BindingSpec
+observer_members d = do
   f ← required (codes "filter") filter d
-  no_other (codes "kind" ∷ codes "filter" ∷ []) d
   Ok (bindings.Observe f)
 
-abbrev pub break_names : List (List ℕ)
-break_names = codes "kind" ∷ codes "session" ∷ codes "source" ∷ codes "line" ∷ codes "condition" ∷ codes "ignore" ∷ codes "one_shot" ∷ []
+abbrev pub observer : Data → Read BindingSpec
+observer = table_of (codes "kind" ∷ codes "filter" ∷ []) observer_members
 
-unfoldable pub breakpoint : Data → Read BindingSpec
-breakpoint d = do
+unfoldable pub breakpoint_members : Data → Read BindingSpec
+breakpoint_members d = do
   session ← required (codes "session") reference d
   source ← required (codes "source") reference d
   line ← required (codes "line") (number_in 1 1048577) d
   test ← optional (codes "condition") condition d
   ignore ← with_default (codes "ignore") 0 (number_in 0 1000000) d
   one_shot ← with_default (codes "one_shot") false truth d
-  no_other break_names d
   Ok (bindings.Break (record { session = session; source = source; line = line; condition = test; ignore = ignore; one_shot = one_shot }))
 
-unfoldable pub pause : Data → Read BindingSpec
-pause d = do
+abbrev pub breakpoint : Data → Read BindingSpec
+breakpoint = table_of (codes "kind" ∷ codes "session" ∷ codes "source" ∷ codes "line" ∷ codes "condition" ∷ codes "ignore" ∷ codes "one_shot" ∷ []) breakpoint_members
+
+unfoldable pub pause_members : Data → Read BindingSpec
+pause_members d = do
   session ← required (codes "session") reference d
-  no_other (codes "kind" ∷ codes "session" ∷ []) d
   Ok (bindings.Pause session)
+
+abbrev pub pause : Data → Read BindingSpec
+pause = table_of (codes "kind" ∷ codes "session" ∷ []) pause_members
 
 abbrev pub kind_of : List ℕ → Read Kind
 kind_of = meaning ((codes "observe", Ok kinds.Observe) ∷ (codes "break", refuse NotBuilt) ∷ (codes "pause", refuse NotBuilt) ∷ [])
@@ -164,13 +171,14 @@ first_act d =
 unfoldable pub act : ℕ → Data → Read Act
 act version = if version == 1 then one_of (codes "attach" ∷ codes "dispose" ∷ []) [] first_act else one_of (codes "attach" ∷ codes "dispose" ∷ codes "enable" ∷ codes "disable" ∷ []) (codes "enable" ∷ codes "disable" ∷ []) first_act
 
-unfoldable pub wait : Data → Read Action
-wait d = do
-  an_object d
+unfoldable pub wait_members : Data → Read Action
+wait_members d = do
   n ← required (codes "count") (number_in 1 1000000) d
   turns ← required (codes "turns") (number_in 1 1000000) d
-  no_other (codes "count" ∷ codes "turns" ∷ []) d
   Ok (actions.Await n turns)
+
+abbrev pub wait : Data → Read Action
+wait = table_of (codes "count" ∷ codes "turns" ∷ []) wait_members
 
 unfoldable pub first_action : Data → Read Action
 first_action d = or_else (optional (codes "await") wait d) (first_act d >>= λ a. Ok (actions.Act a))
@@ -228,31 +236,34 @@ unfoldable pub resume : ℕ → Data → Read Resume
 resume version (string s) = resume_of s
 resume version d = stepping version d
 
-unfoldable pub answer : ℕ → Data → Read Answer
-answer version d = do
-  an_object d
+unfoldable pub answer_members : ℕ → Data → Read Answer
+answer_members version d = do
   first ← with_default (codes "first") [] (list_in 0 64 64 (act version)) d
   next ← required (codes "then") (resume version) d
-  no_other (codes "first" ∷ codes "then" ∷ []) d
   Ok (record { first = first; resume = next })
 
-unfoldable pub session : ℕ → Data → Read Script
-session version d = do
-  an_object d
+abbrev pub answer : ℕ → Data → Read Answer
+answer version = table_of (codes "first" ∷ codes "then" ∷ []) (answer_members version)
+
+unfoldable pub session_members : ℕ → Data → Read Script
+session_members version d = do
   before ← with_default (codes "before") [] (list_in 0 4096 4096 reference) d
   acts ← with_default (codes "actions") [] (list_in 0 1000 0 (action version)) d
   answers ← with_default (codes "answers") [] (list_in 0 10000 0 (answer version)) d
-  no_other (codes "before" ∷ codes "actions" ∷ codes "answers" ∷ []) d
   Ok (record { before = before; actions = acts; answers = answers })
 
-unfoldable pub plan : Data → Read Plan
-plan d = do
-  an_object d
+abbrev pub session : ℕ → Data → Read Script
+session version = table_of (codes "before" ∷ codes "actions" ∷ codes "answers" ∷ []) (session_members version)
+
+unfoldable pub plan_members : Data → Read Plan
+plan_members d = do
   version ← required (codes "version") (number_in 1 2) d
-  sources ← required (codes "sources") (list_in 1 16 1 source) d
-  exports ← with_default (codes "exports") [] (list_in 0 256 0 export) d
+  sources ← required (codes "sources") (list_in 1 16 16 source) d
+  exports ← with_default (codes "exports") [] (list_in 0 256 256 export) d
   contexts ← required (codes "contexts") (list_in 1 16 1 context) d
   observed ← with_default (codes "bindings") [] (list_in 0 4096 4096 binding) d
   sessions ← with_default (codes "sessions") [] (list_in 0 16 16 (session version)) d
-  no_other (codes "version" ∷ codes "sources" ∷ codes "exports" ∷ codes "contexts" ∷ codes "bindings" ∷ codes "sessions" ∷ []) d
   Ok (record { sources = sources; exports = exports; contexts = contexts; bindings = observed; sessions = sessions })
+
+unfoldable pub plan : Data → Read Plan
+plan d = table_of (codes "version" ∷ codes "sources" ∷ codes "exports" ∷ codes "contexts" ∷ codes "bindings" ∷ codes "sessions" ∷ []) plan_members d

@@ -3,10 +3,10 @@ ghost use Rattle.std.specs.Prelude.{◌≡◌, IfOk};
 ghost use Rattle.serde_json.specs.View.{view, items_view};
 ghost use Rattle.pd_plan.specs.declared.refusal.PlanRule.TheVariants.{OutOfRange};
 ghost use Rattle.pd_plan_json.specs.Reading.{Gives, GivesBy, refuse_if, under, entry_step};
-ghost use Rattle.pd_plan_json.specs.Shapes.{outside, no_other};
+ghost use Rattle.pd_plan_json.specs.Shapes.{outside};
 ghost use Rattle.pd_plan_json.specs.Tables as table;
 
-use crate::members::{default_of, is_object, list_of, no_other_than, optional_of, required_of};
+use crate::members::{Table, default_of, is_object, list_of, optional_of, required_of};
 use crate::program::NAME;
 use crate::reader::{Reader, in_entry, refusal};
 use crate::shapes::{ListIn, NumberIn, Reference, TextIn, Truth, chars_of, items_of, whole_of};
@@ -123,26 +123,20 @@ impl Reader for LinesTable {
 
 /// Reads a filter.
 #[derive(Drop)]
-struct FilterTable;
+struct FilterMembers;
 
-impl Reader for FilterTable {
+impl Reader for FilterMembers {
     type Output = Filter;
 
-    ghost reads = { λ _. table.filter };
+    ghost reads = { λ _. table.filter_members };
 
-    #[tactic(auto, unfolding(crate::specs::Tables::filter))]
+    #[tactic(auto, unfolding(crate::specs::Tables::filter_members))]
     fn read(&self, alloc: Global, value: &Value) -> Result<Filter, Stop<PlanRefusal>> {
-        is_object(alloc, value)?;
         let tags = list_of(alloc, value, "tags", &TAGS)?;
         let not_tags = list_of(alloc, value, "not_tags", &TAGS)?;
         let sources = list_of(alloc, value, "sources", &NUMBERS)?;
         let lines = list_of(alloc, value, "lines", &RANGES)?;
         let roots = list_of(alloc, value, "roots", &ROOTS)?;
-        no_other_than(
-            alloc,
-            value,
-            &["tags", "not_tags", "sources", "lines", "roots"],
-        )?;
         Ok(Filter {
             tags,
             not_tags,
@@ -152,6 +146,11 @@ impl Reader for FilterTable {
         })
     }
 }
+
+const FILTER: Table<FilterMembers> = Table {
+    names: &["tags", "not_tags", "sources", "lines", "roots"],
+    members: FilterMembers,
+};
 
 /// Reads a condition, of 1 to 1000 bytes. None is served yet.
 #[derive(Drop)]
@@ -202,39 +201,24 @@ impl Reader for KindWord {
 
 /// Reads an observer.
 #[derive(Drop)]
-struct ObserverTable;
+struct ObserverMembers;
 
-impl Reader for ObserverTable {
+impl Reader for ObserverMembers {
     type Output = BindingSpec;
 
-    ghost reads = { λ _. table.observer };
+    ghost reads = { λ _. table.observer_members };
 
-    #[tactic(auto, unfolding(crate::specs::Tables::observer))]
+    #[tactic(auto, unfolding(crate::specs::Tables::observer_members))]
     fn read(&self, alloc: Global, value: &Value) -> Result<BindingSpec, Stop<PlanRefusal>> {
-        let filter = required_of(alloc, value, "filter", &FilterTable)?;
-        no_other_than(alloc, value, &["kind", "filter"])?;
+        let filter = required_of(alloc, value, "filter", &FILTER)?;
         Ok(BindingSpec::Observe(filter))
     }
 }
 
-/// That a breakpoint has no further member.
-fn no_other_in_break(alloc: Global, value: &Value) -> Result<(), Stop<PlanRefusal>>
-    ensures { Gives result (no_other table.break_names (view value.now)) }
-{
-    no_other_than(
-        alloc,
-        value,
-        &[
-            "kind",
-            "session",
-            "source",
-            "line",
-            "condition",
-            "ignore",
-            "one_shot",
-        ],
-    )
-}
+const OBSERVER: Table<ObserverMembers> = Table {
+    names: &["kind", "filter"],
+    members: ObserverMembers,
+};
 
 const IGNORED: NumberIn = NumberIn {
     low: 0,
@@ -243,14 +227,14 @@ const IGNORED: NumberIn = NumberIn {
 
 /// Reads a breakpoint.
 #[derive(Drop)]
-struct BreakTable;
+struct BreakMembers;
 
-impl Reader for BreakTable {
+impl Reader for BreakMembers {
     type Output = BindingSpec;
 
-    ghost reads = { λ _. table.breakpoint };
+    ghost reads = { λ _. table.breakpoint_members };
 
-    #[tactic(auto, unfolding(crate::specs::Tables::breakpoint))]
+    #[tactic(auto, unfolding(crate::specs::Tables::breakpoint_members))]
     fn read(&self, alloc: Global, value: &Value) -> Result<BindingSpec, Stop<PlanRefusal>> {
         let session = required_of(alloc, value, "session", &Reference)?;
         let source = required_of(alloc, value, "source", &Reference)?;
@@ -258,7 +242,6 @@ impl Reader for BreakTable {
         let condition = optional_of(alloc, value, "condition", &ConditionText)?;
         let ignore = default_of(alloc, value, "ignore", 0, &IGNORED)?;
         let one_shot = default_of(alloc, value, "one_shot", false, &Truth)?;
-        no_other_in_break(alloc, value)?;
         Ok(BindingSpec::Break(BreakSpec {
             session,
             source,
@@ -270,22 +253,46 @@ impl Reader for BreakTable {
     }
 }
 
+const BREAK: Table<BreakMembers> = Table {
+    names: &[
+        "kind",
+        "session",
+        "source",
+        "line",
+        "condition",
+        "ignore",
+        "one_shot",
+    ],
+    members: BreakMembers,
+};
+
+/// A breakpoint.
+fn breakpoint_of(alloc: Global, value: &Value) -> Result<BindingSpec, Stop<PlanRefusal>>
+    ensures { Gives result (table.breakpoint (view value.now)) }
+{
+    BREAK.read(alloc, value)
+}
+
 /// Reads a pause.
 #[derive(Drop)]
-struct PauseTable;
+struct PauseMembers;
 
-impl Reader for PauseTable {
+impl Reader for PauseMembers {
     type Output = BindingSpec;
 
-    ghost reads = { λ _. table.pause };
+    ghost reads = { λ _. table.pause_members };
 
-    #[tactic(auto, unfolding(crate::specs::Tables::pause))]
+    #[tactic(auto, unfolding(crate::specs::Tables::pause_members))]
     fn read(&self, alloc: Global, value: &Value) -> Result<BindingSpec, Stop<PlanRefusal>> {
         let session = required_of(alloc, value, "session", &Reference)?;
-        no_other_than(alloc, value, &["kind", "session"])?;
         Ok(BindingSpec::Pause { session })
     }
 }
+
+const PAUSE: Table<PauseMembers> = Table {
+    names: &["kind", "session"],
+    members: PauseMembers,
+};
 
 /// Reads a binding, its kind first.
 #[derive(Drop)]
@@ -300,9 +307,9 @@ impl Reader for BindingTable {
     fn read(&self, alloc: Global, value: &Value) -> Result<BindingSpec, Stop<PlanRefusal>> {
         is_object(alloc, value)?;
         match required_of(alloc, value, "kind", &KindWord)? {
-            Kind::Observe => ObserverTable.read(alloc, value),
-            Kind::Break => BreakTable.read(alloc, value),
-            Kind::Pause => PauseTable.read(alloc, value),
+            Kind::Observe => OBSERVER.read(alloc, value),
+            Kind::Break => breakpoint_of(alloc, value),
+            Kind::Pause => PAUSE.read(alloc, value),
         }
     }
 }

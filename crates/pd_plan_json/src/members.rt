@@ -4,7 +4,7 @@ ghost use Rattle.std.specs.List.{list_any, list_all};
 ghost use Rattle.std.specs.BTreeMap.{keys};
 ghost use Rattle.serde_json.specs.View.{view};
 ghost use Rattle.pd_plan_json.specs.Reading.{Gives};
-ghost use Rattle.pd_plan_json.specs.Shapes.{an_object, with_default, present, list_in, required, optional, no_other, one_of};
+ghost use Rattle.pd_plan_json.specs.Shapes.{an_object, with_default, present, list_in, required, optional, no_other, one_of, table_of};
 
 use crate::reader::{Reader, in_member, refusal};
 use crate::shapes::ListIn;
@@ -67,11 +67,7 @@ fn all_among(object: &Map<String, Value>, names: &[&str]) -> bool
 
 /// That an object has no member but these.
 #[tactic(auto, unfolding(crate::specs::Shapes::no_other), using(crate::proofs::Keys::are_among_all))]
-pub(crate) fn no_other_than(
-    alloc: Global,
-    value: &Value,
-    names: &[&str],
-) -> Result<(), Stop<PlanRefusal>>
+fn no_other_than(alloc: Global, value: &Value, names: &[&str]) -> Result<(), Stop<PlanRefusal>>
     ensures { Gives result (no_other (map (λ n. n.now) names.now) (view value.now)) }
 {
     let Some(object) = value.as_object() else {
@@ -81,6 +77,27 @@ pub(crate) fn no_other_than(
         return Err(refusal(alloc, PlanRule::UnknownMember));
     }
     Ok(())
+}
+
+/// Reads an object whose members `members` reads, and which has no other than those of `names`.
+#[derive(Drop)]
+pub(crate) struct Table<R> {
+    pub(crate) names: &'static [&'static str],
+    pub(crate) members: R,
+}
+
+impl<R: Reader> Reader for Table<R> {
+    type Output = R::Output;
+
+    ghost reads = { λ r. table_of (map (λ n. n.now) r.names.now) (R.reads r.members) };
+
+    #[tactic(auto, unfolding(crate::specs::Shapes::table_of))]
+    fn read(&self, alloc: Global, value: &Value) -> Result<R::Output, Stop<PlanRefusal>> {
+        is_object(alloc, value)?;
+        let found = self.members.read(alloc, value)?;
+        no_other_than(alloc, value, self.names)?;
+        Ok(found)
+    }
 }
 
 /// How many of these members are there.

@@ -5,7 +5,7 @@ ghost use Rattle.pd_plan_json.specs.Reading.{Gives};
 ghost use Rattle.pd_plan_json.specs.Shapes.{with_default};
 ghost use Rattle.pd_plan_json.specs.Tables as table;
 
-use crate::members::{default_of, is_object, no_other_than, optional_of, required_of};
+use crate::members::{Table, default_of, optional_of, required_of};
 use crate::reader::{Reader, refusal};
 use crate::shapes::{NumberIn, Reference, TextIn, chars_of};
 use pd_plan::{ContextSpec, ExportSpec, Language, PlanRefusal, PlanRule, SourceSpec};
@@ -33,7 +33,7 @@ impl Reader for LanguageWord {
     fn read(&self, alloc: Global, value: &Value) -> Result<Language, Stop<PlanRefusal>> {
         match chars_of(alloc, value)? {
             "sl" => Ok(Language::Sl),
-            "pl0" => Err(refusal(alloc, PlanRule::NotBuilt)),
+            "pl0" => Ok(Language::Pl0),
             _ => Err(refusal(alloc, PlanRule::UnknownWord)),
         }
     }
@@ -41,42 +41,48 @@ impl Reader for LanguageWord {
 
 /// Reads a source.
 #[derive(Drop)]
-pub(crate) struct SourceTable;
+pub(crate) struct SourceMembers;
 
-impl Reader for SourceTable {
+impl Reader for SourceMembers {
     type Output = SourceSpec;
 
-    ghost reads = { λ _. table.source };
+    ghost reads = { λ _. table.source_members };
 
-    #[tactic(auto, unfolding(crate::specs::Tables::source))]
+    #[tactic(auto, unfolding(crate::specs::Tables::source_members))]
     fn read(&self, alloc: Global, value: &Value) -> Result<SourceSpec, Stop<PlanRefusal>> {
-        is_object(alloc, value)?;
         let name = required_of(alloc, value, "name", &NAME)?;
         let language = required_of(alloc, value, "language", &LanguageWord)?;
-        no_other_than(alloc, value, &["name", "language"])?;
         Ok(SourceSpec { name, language })
     }
 }
 
+pub(crate) const SOURCE: Table<SourceMembers> = Table {
+    names: &["name", "language"],
+    members: SourceMembers,
+};
+
 /// Reads an export.
 #[derive(Drop)]
-pub(crate) struct ExportTable;
+pub(crate) struct ExportMembers;
 
-impl Reader for ExportTable {
+impl Reader for ExportMembers {
     type Output = ExportSpec;
 
-    ghost reads = { λ _. table.export };
+    ghost reads = { λ _. table.export_members };
 
-    #[tactic(auto, unfolding(crate::specs::Tables::export))]
+    #[tactic(auto, unfolding(crate::specs::Tables::export_members))]
     fn read(&self, alloc: Global, value: &Value) -> Result<ExportSpec, Stop<PlanRefusal>> {
-        is_object(alloc, value)?;
         let name = required_of(alloc, value, "name", &NAME)?;
         let source = required_of(alloc, value, "source", &Reference)?;
         let item = required_of(alloc, value, "item", &NAME)?;
-        no_other_than(alloc, value, &["name", "source", "item"])?;
         Ok(ExportSpec { name, source, item })
     }
 }
+
+pub(crate) const EXPORT: Table<ExportMembers> = Table {
+    names: &["name", "source", "item"],
+    members: ExportMembers,
+};
 
 /// The name of a context's entry.
 #[tactic(auto, unfolding(crate::specs::Shapes::with_default))]
@@ -91,20 +97,18 @@ fn entry_or_main(alloc: Global, value: &Value) -> Result<Text, Stop<PlanRefusal>
 
 /// Reads a context.
 #[derive(Drop)]
-pub(crate) struct ContextTable;
+pub(crate) struct ContextMembers;
 
-impl Reader for ContextTable {
+impl Reader for ContextMembers {
     type Output = ContextSpec;
 
-    ghost reads = { λ _. table.context };
+    ghost reads = { λ _. table.context_members };
 
-    #[tactic(auto, unfolding(crate::specs::Tables::context))]
+    #[tactic(auto, unfolding(crate::specs::Tables::context_members))]
     fn read(&self, alloc: Global, value: &Value) -> Result<ContextSpec, Stop<PlanRefusal>> {
-        is_object(alloc, value)?;
         let source = required_of(alloc, value, "source", &Reference)?;
         let entry = entry_or_main(alloc, value)?;
         let fuel = default_of(alloc, value, "fuel", 1_000_000, &FUEL)?;
-        no_other_than(alloc, value, &["source", "entry", "fuel"])?;
         Ok(ContextSpec {
             source,
             entry,
@@ -112,3 +116,8 @@ impl Reader for ContextTable {
         })
     }
 }
+
+pub(crate) const CONTEXT: Table<ContextMembers> = Table {
+    names: &["source", "entry", "fuel"],
+    members: ContextMembers,
+};

@@ -4,7 +4,7 @@ ghost use Rattle.serde_json.specs.View.{view, items_view};
 ghost use Rattle.pd_plan_json.specs.Reading.{Gives};
 ghost use Rattle.pd_plan_json.specs.Tables as table;
 
-use crate::members::{choice_of, is_object, list_of, no_other_than, optional_of, required_of};
+use crate::members::{Table, choice_of, list_of, optional_of, required_of};
 use crate::program::NAME;
 use crate::reader::{Reader, refusal};
 use crate::shapes::{ListIn, NumberIn, Reference, entry_of, items_of, signed_of};
@@ -77,22 +77,25 @@ impl Reader for ActTable {
 
 /// Reads a wait for answers.
 #[derive(Drop)]
-struct WaitTable;
+struct WaitMembers;
 
-impl Reader for WaitTable {
+impl Reader for WaitMembers {
     type Output = Action;
 
-    ghost reads = { λ _. table.wait };
+    ghost reads = { λ _. table.wait_members };
 
-    #[tactic(auto, unfolding(crate::specs::Tables::wait))]
+    #[tactic(auto, unfolding(crate::specs::Tables::wait_members))]
     fn read(&self, alloc: Global, value: &Value) -> Result<Action, Stop<PlanRefusal>> {
-        is_object(alloc, value)?;
         let count = required_of(alloc, value, "count", &MILLION)?;
         let turns = required_of(alloc, value, "turns", &MILLION)?;
-        no_other_than(alloc, value, &["count", "turns"])?;
         Ok(Action::Await { count, turns })
     }
 }
+
+const WAIT: Table<WaitMembers> = Table {
+    names: &["count", "turns"],
+    members: WaitMembers,
+};
 
 /// Reads what a session does.
 #[derive(Drop)]
@@ -105,7 +108,7 @@ impl Reader for FirstAction {
 
     #[tactic(auto, unfolding(crate::specs::Tables::first_action))]
     fn read(&self, alloc: Global, value: &Value) -> Result<Action, Stop<PlanRefusal>> {
-        if let Some(wait) = optional_of(alloc, value, "await", &WaitTable)? {
+        if let Some(wait) = optional_of(alloc, value, "await", &WAIT)? {
             return Ok(wait);
         }
         Ok(Action::Act(FirstAct.read(alloc, value)?))
@@ -263,20 +266,21 @@ impl Reader for ResumeTable {
     }
 }
 
+const ANSWER: &[&str] = &["first", "then"];
+
 /// Reads an answer of a plan of the version.
 #[derive(Clone, Copy, Drop)]
-struct AnswerTable {
+struct AnswerMembers {
     version: u32,
 }
 
-impl Reader for AnswerTable {
+impl Reader for AnswerMembers {
     type Output = Answer;
 
-    ghost reads = { λ r. table.answer r.version };
+    ghost reads = { λ r. table.answer_members r.version };
 
-    #[tactic(auto, unfolding(crate::specs::Tables::answer))]
+    #[tactic(auto, unfolding(crate::specs::Tables::answer_members))]
     fn read(&self, alloc: Global, value: &Value) -> Result<Answer, Stop<PlanRefusal>> {
-        is_object(alloc, value)?;
         let version = self.version;
         let acts = ListIn {
             low: 0,
@@ -287,25 +291,23 @@ impl Reader for AnswerTable {
         let first = list_of(alloc, value, "first", &acts)?;
         let resumes = ResumeTable { version };
         let resume = required_of(alloc, value, "then", &resumes)?;
-        no_other_than(alloc, value, &["first", "then"])?;
         Ok(Answer { first, resume })
     }
 }
 
 /// Reads a session of a plan of the version.
 #[derive(Clone, Copy, Drop)]
-pub(crate) struct SessionTable {
+pub(crate) struct SessionMembers {
     pub(crate) version: u32,
 }
 
-impl Reader for SessionTable {
+impl Reader for SessionMembers {
     type Output = Script;
 
-    ghost reads = { λ r. table.session r.version };
+    ghost reads = { λ r. table.session_members r.version };
 
-    #[tactic(auto, unfolding(crate::specs::Tables::session))]
+    #[tactic(auto, unfolding(crate::specs::Tables::session_members))]
     fn read(&self, alloc: Global, value: &Value) -> Result<Script, Stop<PlanRefusal>> {
-        is_object(alloc, value)?;
         let before = list_of(alloc, value, "before", &BEFORE)?;
         let version = self.version;
         let actions = ListIn {
@@ -319,10 +321,12 @@ impl Reader for SessionTable {
             low: 0,
             high: 10_000,
             built: 0,
-            entry: AnswerTable { version },
+            entry: Table {
+                names: ANSWER,
+                members: AnswerMembers { version },
+            },
         };
         let answers = list_of(alloc, value, "answers", &answers)?;
-        no_other_than(alloc, value, &["before", "actions", "answers"])?;
         Ok(Script {
             before,
             actions,

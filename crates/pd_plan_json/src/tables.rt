@@ -1,11 +1,13 @@
 //! The table of a plan.
+ghost use Rattle.serde_json.specs.View.{view};
+ghost use Rattle.pd_plan_json.specs.Reading.{Gives};
 ghost use Rattle.pd_plan_json.specs.Tables as table;
 
 use crate::bindings::BindingTable;
-use crate::members::{is_object, list_of, no_other_than, required_of};
-use crate::program::{ContextTable, ExportTable, SourceTable};
+use crate::members::{Table, list_of, required_of};
+use crate::program::{CONTEXT, ContextMembers, EXPORT, ExportMembers, SOURCE, SourceMembers};
 use crate::reader::Reader;
-use crate::sessions::SessionTable;
+use crate::sessions::SessionMembers;
 use crate::shapes::{ListIn, NumberIn};
 use pd_plan::{Plan, PlanRefusal};
 use pd_values::Stop;
@@ -14,25 +16,25 @@ use std::alloc::Global;
 
 const VERSIONS: NumberIn = NumberIn { low: 1, high: 2 };
 
-const SOURCES: ListIn<SourceTable> = ListIn {
+const SOURCES: ListIn<Table<SourceMembers>> = ListIn {
     low: 1,
     high: 16,
-    built: 1,
-    entry: SourceTable,
+    built: 16,
+    entry: SOURCE,
 };
 
-const EXPORTS: ListIn<ExportTable> = ListIn {
+const EXPORTS: ListIn<Table<ExportMembers>> = ListIn {
     low: 0,
     high: 256,
-    built: 0,
-    entry: ExportTable,
+    built: 256,
+    entry: EXPORT,
 };
 
-const CONTEXTS: ListIn<ContextTable> = ListIn {
+const CONTEXTS: ListIn<Table<ContextMembers>> = ListIn {
     low: 1,
     high: 16,
     built: 1,
-    entry: ContextTable,
+    entry: CONTEXT,
 };
 
 const BINDINGS: ListIn<BindingTable> = ListIn {
@@ -42,18 +44,19 @@ const BINDINGS: ListIn<BindingTable> = ListIn {
     entry: BindingTable,
 };
 
+const SESSION: &[&str] = &["before", "actions", "answers"];
+
 /// Reads a plan.
 #[derive(Drop)]
-pub(crate) struct PlanTable;
+struct PlanMembers;
 
-impl Reader for PlanTable {
+impl Reader for PlanMembers {
     type Output = Plan;
 
-    ghost reads = { λ _. table.plan };
+    ghost reads = { λ _. table.plan_members };
 
-    #[tactic(auto, unfolding(crate::specs::Tables::plan))]
+    #[tactic(auto, unfolding(crate::specs::Tables::plan_members))]
     fn read(&self, alloc: Global, value: &Value) -> Result<Plan, Stop<PlanRefusal>> {
-        is_object(alloc, value)?;
         let version = required_of(alloc, value, "version", &VERSIONS)?;
         let sources = required_of(alloc, value, "sources", &SOURCES)?;
         let exports = list_of(alloc, value, "exports", &EXPORTS)?;
@@ -63,16 +66,12 @@ impl Reader for PlanTable {
             low: 0,
             high: 16,
             built: 16,
-            entry: SessionTable { version },
+            entry: Table {
+                names: SESSION,
+                members: SessionMembers { version },
+            },
         };
         let sessions = list_of(alloc, value, "sessions", &sessions)?;
-        no_other_than(
-            alloc,
-            value,
-            &[
-                "version", "sources", "exports", "contexts", "bindings", "sessions",
-            ],
-        )?;
         Ok(Plan {
             sources,
             exports,
@@ -81,4 +80,19 @@ impl Reader for PlanTable {
             sessions,
         })
     }
+}
+
+const PLAN: Table<PlanMembers> = Table {
+    names: &[
+        "version", "sources", "exports", "contexts", "bindings", "sessions",
+    ],
+    members: PlanMembers,
+};
+
+/// A plan.
+#[tactic(auto, unfolding(crate::specs::Tables::plan))]
+pub(crate) fn plan_in(alloc: Global, value: &Value) -> Result<Plan, Stop<PlanRefusal>>
+    ensures { Gives result (table.plan (view value.now)) }
+{
+    PLAN.read(alloc, value)
 }

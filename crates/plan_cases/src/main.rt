@@ -3,7 +3,7 @@
 //! written by hand from the rules of the format.
 #![tactic(auto)]
 
-use pd_plan::{BindingSpec, Filter, Plan, PlanRule};
+use pd_plan::{BindingSpec, Filter, Language, Plan, PlanRule};
 use pd_plan_json::read_plan;
 use pd_values::Stop;
 use std::io::{self, BufRead, BufReader};
@@ -21,6 +21,14 @@ fn name_of(rule: PlanRule) -> &'static str {
         PlanRule::BadCondition => "BadCondition",
         PlanRule::NotAnObserver => "NotAnObserver",
         PlanRule::NotBuilt => "NotBuilt",
+    }
+}
+
+/// The word of a language.
+fn word_of(language: Language) -> &'static str {
+    match language {
+        Language::Sl => "sl",
+        Language::Pl0 => "pl0",
     }
 }
 
@@ -51,7 +59,12 @@ fn print_plan(rt: &HostRuntime, plan: &Plan) -> io::Result<()> {
     print!(rt; "ok")?;
     for source in plan.sources.as_slice() {
         let name = source.name.as_str();
-        print!(rt; " {name}")?;
+        print!(rt; " {name}:{}", word_of(source.language))?;
+    }
+    for export in plan.exports.as_slice() {
+        let name = export.name.as_str();
+        let item = export.item.as_str();
+        print!(rt; " {name}={}.{item}", export.source)?;
     }
     for context in plan.contexts.as_slice() {
         let entry = context.entry.as_str();
