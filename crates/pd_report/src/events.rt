@@ -1,20 +1,34 @@
 //! The texts of values, ends and events.
-ghost use Rattle.std.specs.Prelude.{◌≡◌, ◌<◌, ◌++◌, All, length, string_bytes, OnOk, flat_map};
+ghost use Rattle.std.specs.Prelude.{◌≡◌, ◌<◌, ◌++◌, ◌∷◌, [], All, codes, decimal, length, string_bytes, OnOk, flat_map};
 ghost use Rattle.pd_values.specs.Operators.{show};
+ghost use Rattle.pd_report.specs.Lines.{joined};
 ghost use Rattle.pd_report.specs.Transcript.{fault_name, cause_text, end_text, entry_text, detail_text, kind_text, position_text};
 
+use itoa::Buffer;
 use pd_log::Entry;
 use pd_machine::{Cause, EventKind};
 use pd_tree::Program;
 use pd_values::{End, Fault, NodeId, Text, Value};
 use std::alloc::AllocError;
 
+// A number, with what stands before it.
+fn push_number(text: &mut String, before: &str, number: u64) -> Result<(), AllocError>
+    ensures { OnOk result (string_bytes text.new ≡ string_bytes text.old ++ (before.now ++ decimal number)) }
+{
+    let mut buffer = Buffer::new();
+    text.push_str(before)?;
+    text.push_str(buffer.format(number))
+}
+
 // A value as it is shown, where `names` are those of the items.
 fn push_value(text: &mut String, names: &[Text], value: &Value) -> Result<(), AllocError>
     ensures { OnOk result (string_bytes text.new ≡ string_bytes text.old ++ show names.now value.now) }
 {
     match value {
-        Value::Number(n) => write!(text, "{n}"),
+        Value::Number(n) => {
+            let mut buffer = Buffer::new();
+            text.push_str(buffer.format(*n))
+        }
         Value::Bool(b) => text.push_str(if *b { "true" } else { "false" }),
         Value::Text(t) => text.push_str(t.as_str()),
         Value::Null => text.push_str("NULL"),
@@ -72,7 +86,9 @@ fn push_position(text: &mut String, program: &Program, node: NodeId) -> Result<(
 {
     let section = program.section(node);
     let (line, column) = (program.line(node), program.column(node));
-    write!(text, "{}:{line}:{column}", section.source)
+    push_number(text, "", section.source as u64)?;
+    push_number(text, ":", line as u64)?;
+    push_number(text, ":", column as u64)
 }
 
 fn push_cause(text: &mut String, cause: Cause) -> Result<(), AllocError>
@@ -82,7 +98,10 @@ fn push_cause(text: &mut String, cause: Cause) -> Result<(), AllocError>
         Cause::Returning => text.push_str("returning"),
         Cause::Breaking => text.push_str("breaking"),
         Cause::Continuing => text.push_str("continuing"),
-        Cause::Faulting(fault) => write!(text, "fault {}", fault_name(fault)),
+        Cause::Faulting(fault) => {
+            text.push_str("fault ")?;
+            text.push_str(fault_name(fault))
+        }
         Cause::Unwinding => text.push_str("unwinding"),
     }
 }
@@ -103,14 +122,33 @@ fn push_detail(text: &mut String, names: &[Text], kind: &EventKind) -> Result<()
     }
 }
 
+// What stands in front of the node of an entry: its context, its number, its place and its kind.
+fn push_event(text: &mut String, entry: &Entry) -> Result<(), AllocError>
+    ensures { OnOk result (string_bytes text.new ≡ string_bytes text.old ++ joined (codes "  " ∷ decimal entry.now.context ∷ codes " " ∷ decimal entry.now.event ∷ codes " " ∷ decimal entry.now.place ∷ codes " " ∷ kind_text entry.now.kind ∷ [])) }
+{
+    push_number(text, "  ", entry.context as u64)?;
+    push_number(text, " ", entry.event as u64)?;
+    push_number(text, " ", entry.place)?;
+    text.push_str(" ")?;
+    text.push_str(kind_name(&entry.kind))
+}
+
+// A node, with where it starts.
+fn push_node(text: &mut String, program: &Program, node: NodeId) -> Result<(), AllocError>
+    requires { node < length program.now.nodes }
+    ensures { OnOk result (string_bytes text.new ≡ string_bytes text.old ++ joined (codes " " ∷ decimal node ∷ codes " " ∷ position_text program.now node ∷ [])) }
+{
+    push_number(text, " ", node.0 as u64)?;
+    text.push_str(" ")?;
+    push_position(text, program, node)
+}
+
 fn push_entry(text: &mut String, program: &Program, entry: &Entry) -> Result<(), AllocError>
     requires { entry.now.node < length program.now.nodes }
     ensures { OnOk result (string_bytes text.new ≡ string_bytes text.old ++ entry_text program.now entry.now) }
 {
-    let (context, event, place, node) = (entry.context, entry.event, entry.place, entry.node);
-    let kind = kind_name(&entry.kind);
-    write!(text, "  {context} {event} {place} {kind} {} ", node.0)?;
-    push_position(text, program, node)?;
+    push_event(text, entry)?;
+    push_node(text, program, entry.node)?;
     push_detail(text, program.names(), &entry.kind)?;
     text.push_str("\n")?;
     Ok(())
