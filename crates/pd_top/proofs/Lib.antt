@@ -1,5 +1,9 @@
-pub mod LineLemmas
 pub mod PieceLemmas
-pub mod EntryLemmas
+pub mod FileLemmas
+pub mod SourceLemmas
 pub mod LoadLemmas
-pub mod ContentLemmas
+pub mod PlanLemmas
+pub mod StopLemmas
+pub mod RefusalLemmas
+pub mod CauseLemmas
+pub mod AnswerLemmas

@@ -1,64 +1,34 @@
--- What loading the one source says.
-use Rattle.std.proofs.Common.{◌≡◌, ◌<◌, ℕ, List, [], ◌∷◌, ◌++◌, length, codes, refl, ap, subst, arith, Option, Result, Ok, Err}
-use Rattle.std.specs.Prelude.{IfOk, IfErr}
-use Rattle.std.specs.Str.{IsUtf8, IsValidUpTo}
-use Rattle.pd_sections.specs.declared.NotUtf8.{NotUtf8}
-use Rattle.pd_sections.specs.declared.Stop.{Stop}
-use Rattle.pd_sections.specs.declared.Stop.TheVariants.{Refused, Memory}
-use Rattle.pd_sections.specs.Refusing.{IsNotUtf8}
+-- The programs that are loaded have an entry for each context.
+use Rattle.std.proofs.Common.{◌≡◌, ◌<◌, ◌≤◌, ◌+◌, ◌∙◌, ℕ, suc, List, [], ◌∷◌, ◌++◌, length, refl, ap, sym, subst, arith, Option, Result, Ok, Err}
+use Rattle.std.proofs.lemmas.List.{length-append}
 use Rattle.pd_sections.specs.Written.{Written}
+use Rattle.pd_plan.specs.declared.plan.ContextSpec.{ContextSpec}
 use Rattle.pd_plan.specs.declared.plan.Plan.{Plan}
 use Rattle.pd_tree.specs.declared.addition.Addition.{Addition}
 use Rattle.pd_tree.specs.Program.{Program}
 use Rattle.pd_tree.specs.Linked.{program_of}
 use Rattle.pd_load.specs.declared.refusal.LoadRefusal.{LoadRefusal}
-use Rattle.pd_load.specs.declared.refusal.LoadCause.TheVariants.{NotUtf8 as NoText}
-use Rattle.pd_load.specs.Linked.{interfaces, all_found, and_then, entry_item}
-use Rattle.pd_load.specs.Loading.{IsLoaded, IsRefused, StopsFor}
-use Rattle.pd_top.specs.Plans.{trace_plan}
-use Rattle.pd_top.specs.Loading.{sources_of, IsRefusal, StopsLoad, no_text, not_loaded}
+use Rattle.pd_load.specs.Names.{Symbol, Interface}
+use Rattle.pd_load.specs.Linked.{interfaces, all_found, and_then, entry_item, entries_from, exports_from}
+use Rattle.pd_load.specs.Loading.{IsLoaded}
 
--- where the entry of the one context is found, the program has it
-one_entry : (trees : List (List Addition)) (found : List (Option ℕ)) (r : Result ℕ LoadRefusal) (p : Program)
-    → and_then {T = List ℕ} {U = Program} (and_then {T = ℕ} {U = List ℕ} r (λ i. Ok ([] ++ i ∷ []))) (λ entries. Ok (program_of trees found entries)) ≡ Ok p
-    → 0 < length p.entries
-one_entry trees found (Err refusal) p is = cc
-one_entry trees found (Ok i) p is =
-    let same : program_of trees found (i ∷ []) ≡ p = cc in
-    let many : length (program_of trees found (i ∷ [])).entries ≡ length p.entries = ap (λ q. length q.entries) same in omega (arith, many)
+followed : {T U : Type 0} (r : Result T LoadRefusal) (next : T → Result U LoadRefusal) (y : U) → and_then r next ≡ Ok y → (x : T) × (r ≡ Ok x) × (next x ≡ Ok y)
+followed (Ok x) next y e = (x, refl, e)
+followed (Err refusal) next y e = cc
 
-pub has_entry : (name bytes : List ℕ) (p : Program) → IsLoaded (trace_plan name) (sources_of name bytes) p → 0 < length p.entries
-has_entry name bytes p (trees, spelled, is) =
-    let plan = trace_plan name in
-    one_entry trees (all_found [] 1 plan.sources trees) (entry_item (interfaces 1 plan.sources trees) 0 (record { source = 0; entry = codes "main"; fuel = 1000000 })) p is
+entries_counted : (all : List Interface) (k : ℕ) (earlier : List ℕ) (cs : List ContextSpec) (entries : List ℕ) → entries_from all k earlier cs ≡ Ok entries
+    → length entries ≡ length earlier + length cs
+entries_counted all k earlier [] entries e = let same : earlier ≡ entries = cc in omega (arith, ap length same)
+entries_counted all k earlier (c ∷ cs) entries e =
+    let first = followed (entry_item all k c) (λ i. entries_from all (k + 1) (earlier ++ i ∷ []) cs) entries e in
+    omega (arith, entries_counted all (k + 1) (earlier ++ first.0 ∷ []) cs entries first.2, length-append earlier (first.0 ∷ []))
 
--- a source that isn't text is refused at the end of its longest front that is
-pub refused_text : (name bytes : List ℕ) (stop : Stop NotUtf8) (at : ℕ) → IsNotUtf8 bytes stop → stop ≡ Refused (record { at = at })
-    → IsRefusal name bytes (record { source = 0; cause = NoText at })
-refused_text name bytes (Refused r) at not is =
-    let same : r ≡ record { at = at } = cc in
-    no_text (record { at = at; longest = subst (λ (x : NotUtf8). IsValidUpTo bytes x.at) same not; refusal_is = refl })
-refused_text name bytes Memory at not is = cc
-
--- ---- what loading the one source answers
-
-pub entered : (name bytes : List ℕ) (source : Written) (plan : Plan) (r : Result Program (Stop LoadRefusal))
-    → source ≡ record { name = name; bytes = bytes } → plan ≡ trace_plan name → IfOk r (IsLoaded plan (source ∷ []))
-    → IfOk r (λ program. 0 < length program.entries)
-entered name bytes source plan (Ok program) source_is plan_is loaded =
-    has_entry name bytes program
-    (subst (λ p. IsLoaded p (sources_of name bytes) program) plan_is (subst (λ w. IsLoaded plan (w ∷ []) program) source_is loaded))
-entered name bytes source plan (Err stop) source_is plan_is loaded = tt
-
-stops_load : (name bytes : List ℕ) (stop : Stop LoadRefusal) → IsUtf8 bytes → StopsFor (trace_plan name) (sources_of name bytes) stop
-    → StopsLoad name bytes stop
-stops_load name bytes (Refused refusal) text stops = not_loaded text stops
-stops_load name bytes Memory text stops = tt
-
-pub stopped : (name bytes : List ℕ) (source : Written) (plan : Plan) (r : Result Program (Stop LoadRefusal))
-    → source ≡ record { name = name; bytes = bytes } → plan ≡ trace_plan name → IsUtf8 bytes → IfErr r (StopsFor plan (source ∷ []))
-    → IfErr r (StopsLoad name bytes)
-stopped name bytes source plan (Ok program) source_is plan_is text stops = tt
-stopped name bytes source plan (Err stop) source_is plan_is text stops =
-    stops_load name bytes stop text
-    (subst (λ p. StopsFor p (sources_of name bytes) stop) plan_is (subst (λ w. StopsFor plan (w ∷ []) stop) source_is stops))
+pub has_entry : (plan : Plan) (sources : List Written) (program : Program) → length plan.contexts ≡ 1 → IsLoaded plan sources program → 0 < length program.entries
+has_entry plan sources program one (trees, are, is) =
+    let all = interfaces 1 plan.sources trees in
+    let exports = followed (exports_from all 0 [] plan.exports)
+    (λ symbols. and_then (entries_from all 0 [] plan.contexts) (λ entries. Ok (program_of trees (all_found symbols 1 plan.sources trees) entries))) program is in
+    let entries = followed (entries_from all 0 [] plan.contexts) (λ items. Ok (program_of trees (all_found exports.0 1 plan.sources trees) items)) program exports.2 in
+    let same : program_of trees (all_found exports.0 1 plan.sources trees) entries.0 ≡ program = cc in
+    let many : length (program_of trees (all_found exports.0 1 plan.sources trees) entries.0).entries ≡ length program.entries = ap (λ p. length p.entries) same in
+    omega (arith, many, one, entries_counted all 0 [] plan.contexts entries.0 entries.1)

@@ -1,111 +1,173 @@
 -- What the answers of the top call say.
-use Rattle.std.specs.Prelude.{◌≡◌, ◌<◌, ℕ, List, [], ◌∷◌, Option, Some, Bool, true, false, slice_index, codes}
+use Rattle.std.specs.Prelude.{◌≡◌, ◌<◌, ◌⊎◌, ℕ, List, [], ◌∷◌, take, Option, Some, Bool, true, false, if◌then◌else◌, codes, Ok, Err}
+use Rattle.std.specs.Io.KnownBytes.{append_known}
+use Rattle.std.specs.List.{list_all}
 use Rattle.std.specs.Fmt.{decimal}
 use Rattle.pd_values.specs.declared.value.End.{End}
 use Rattle.pd_values.specs.declared.value.End.TheVariants.{Done}
 use Rattle.pd_sections.specs.declared.Rule.{Rule}
 use Rattle.pd_sections.specs.declared.Rule.TheVariants.{BadByte, OpenText, OpenComment, Unexpected, LiteralTooLarge, Undeclared, NotAssignable, NotAProcedure, NotAValue, Doubled, TooDeep, TooManyNodes}
+use Rattle.pd_plan.specs.declared.plan.Plan.{Plan}
+use Rattle.pd_plan.specs.declared.refusal.PlanRule.{PlanRule}
+use Rattle.pd_plan.specs.declared.refusal.PlanRule.TheVariants as plans
+use Rattle.pd_plan.specs.declared.refusal.PlanRefusal.{PlanRefusal}
 use Rattle.pd_tree.specs.Program.{Program}
 use Rattle.pd_load.specs.declared.refusal.LoadRefusal.{LoadRefusal}
 use Rattle.pd_load.specs.declared.refusal.LoadCause.{LoadCause}
 use Rattle.pd_load.specs.declared.refusal.LoadCause.TheVariants.{Spelling, NoSuchItem, DoubledExport, NoSuchEntry, NotUtf8}
-use Rattle.pd_trace.specs.declared.record.Traced.{Traced}
-use Rattle.pd_trace.specs.Record.{IsRecord}
+use Rattle.pd_report.specs.declared.report.Report.{Report}
+use Rattle.pd_report.specs.Lines.{joined}
+use Rattle.pd_report.specs.Run.{IsRun}
+use Rattle.pd_report.specs.Transcript.{text_of, check_line}
+use Rattle.pd_top.specs.declared.words.Command.{Command}
+use Rattle.pd_top.specs.declared.words.Command.TheVariants.{Trace, Run, Check}
 use Rattle.pd_top.specs.declared.words.WordFault.{WordFault}
 use Rattle.pd_top.specs.declared.words.WordFault.TheVariants.{NoCommand, UnknownCommand, Refused as WordsRefused}
-use Rattle.pd_top.specs.declared.tracing.Untraced.{Untraced}
-use Rattle.pd_top.specs.declared.tracing.Untraced.TheVariants.{Unreadable as NotRead, TooLong as IsTooLong, Refused as NotLoaded, Memory as NoMemory}
+use Rattle.pd_top.specs.declared.outcome.Unwritten.{Unwritten}
+use Rattle.pd_top.specs.declared.outcome.Unwritten.TheVariants as unwritten
 use Rattle.pd_top.specs.declared.outcome.Outcome.{Outcome}
-use Rattle.pd_top.specs.declared.outcome.Outcome.TheVariants.{Ran, Usage, Unreadable, TooLong, SourceRefused, SinkFailed, Memory}
-use Rattle.pd_top.specs.declared.outcome.Unwritten.TheVariants.{Ran as HadRun}
-use Rattle.pd_top.specs.Lines.{joined}
-use Rattle.pd_top.specs.Transcript.{text_of}
-use Rattle.pd_top.specs.Plans.{default_fuel}
-use Rattle.pd_top.specs.Loading.{IsProgramOf, IsContent, IsLong, IsSourceRefused}
+use Rattle.pd_top.specs.declared.outcome.Outcome.TheVariants.{Ran, Checked, Usage, Unreadable, TooLong, PlanRefused, SourceRefused, SinkFailed, Memory}
+use Rattle.pd_top.specs.Words.{command_of}
+use Rattle.pd_top.specs.Files.{Held, IsFault}
+use Rattle.pd_top.specs.Causes.{Cause, too_long, plan_refused, source_refused, accepted, IsReached, IsCause}
 
--- the file holds a source that is spelled, this is the record of its program's run from the entry of context 0, and this the text of
--- the record
-pub record IsTraceOf (held : Option (List ℕ → Option (List ℕ))) (file : List ℕ) (traced : Traced) (text : List ℕ) : Type 0 where
-  pub bytes : List ℕ
+-- ---- what was read and written
+
+-- the words; what the library holds, its faults before and after, and the name of the last one
+pub record Reading : Type 0 where
+  pub words : List (List ℕ)
+  pub held : Held
+  pub before : ℕ
+  pub after : ℕ
+  pub last : Option (List ℕ)
+
+-- the bytes that the sink had taken and has taken, where it tells that, and its faults before and after
+pub record Writing : Type 0 where
+  pub taken : Option (List ℕ)
+  pub now : Option (List ℕ)
+  pub before : ℕ
+  pub after : ℕ
+
+-- these bytes were added
+abbrev pub IsWritten : Writing → List ℕ → Type 0
+IsWritten writing bytes = writing.now ≡ append_known writing.taken bytes
+
+-- ---- texts
+
+-- what the command answers for this plan and program, with its whole text: `trace` and `run` a report of the plan's run, `check` the
+-- line that counts
+abbrev pub IsTextOf : Command → Plan → Program → Unwritten → List ℕ → Type 0
+IsTextOf (Trace file) plan program (unwritten.Ran report) text = IsRun plan program report × (text ≡ text_of plan program report)
+IsTextOf (Run file) plan program (unwritten.Ran report) text = IsRun plan program report × (text ≡ text_of plan program report)
+IsTextOf (Check file) plan program unwritten.Checked text = text ≡ check_line plan program
+IsTextOf _ plan program _ text = ⊥
+
+-- the words are a command whose plan and sources are accepted, and this is its answer with its whole text
+pub record IsWhole (words : List (List ℕ)) (held : Held) (answer : Unwritten) (text : List ℕ) : Type 0 where
+  pub command : Command
+  pub plan : Plan
   pub program : Program
-  pub content : IsContent held file bytes
-  pub source : IsProgramOf file bytes program
-  pub run : IsRecord program (slice_index program.entries 0) default_fuel traced
-  pub text_is : text ≡ text_of file program traced
+  pub asked : command_of words ≡ Ok command
+  pub accepts : IsCause held command (accepted plan program)
+  pub text_is : IsTextOf command plan program answer text
 
--- the file can't be read: the library's faults have risen, and its last one is at this name
-pub record IsFault (before after : ℕ) (last : Option (List ℕ)) (file : List ℕ) : Type 0 where
-  pub risen : before < after
-  pub at_file : last ≡ Some file
+-- ---- what each answer says
 
--- why a file isn't traced
-abbrev pub StopsTrace : Option (List ℕ → Option (List ℕ)) → List ℕ → ℕ → ℕ → Option (List ℕ) → Untraced → Type 0
-StopsTrace held file before after last (NotRead name) = (name ≡ file) × IsFault before after last file
-StopsTrace held file before after last (IsTooLong name) = (name ≡ file) × IsLong held file
-StopsTrace held file before after last (NotLoaded refusal) = IsSourceRefused held file refusal
-StopsTrace held file before after last NoMemory = Unit {0}
+-- the words are a command whose files have this cause
+abbrev pub IsDueTo : Reading → Cause → Type 0
+IsDueTo reading cause = (command : Command) × (command_of reading.words ≡ Ok command) × IsCause reading.held command cause
 
--- a fact for one answer
-abbrev pub IfRan : Outcome → (Traced → Type 0) → Type 0
-IfRan (Ran traced) P = P traced
-IfRan _ P = Unit {0}
+-- the answers with which nothing is written
+abbrev pub IsReason : Reading → Outcome → Type 0
+IsReason reading (Usage fault) = command_of reading.words ≡ Err fault
+IsReason reading (Unreadable name) =
+    (command : Command) × (command_of reading.words ≡ Ok command) × IsReached reading.held command name
+    × IsFault reading.before reading.after reading.last name
+IsReason reading (TooLong name) = IsDueTo reading (too_long name)
+IsReason reading (PlanRefused refusal) = IsDueTo reading (plan_refused refusal)
+IsReason reading (SourceRefused refusal) = IsDueTo reading (source_refused refusal)
+IsReason reading Memory = Unit {0}
+IsReason reading _ = ⊥
 
-abbrev pub IfUnwritten : Outcome → (Traced → Type 0) → Type 0
-IfUnwritten (SinkFailed (HadRun traced)) P = P traced
-IfUnwritten _ P = Unit {0}
+-- where the sink failed, it took some first bytes of the text
+abbrev pub Tells : Reading → Writing → Outcome → Type 0
+Tells reading writing (Ran report) = (text : List ℕ) × IsWhole reading.words reading.held (unwritten.Ran report) text × IsWritten writing text
+Tells reading writing Checked = (line : List ℕ) × IsWhole reading.words reading.held unwritten.Checked line × IsWritten writing line
+Tells reading writing (SinkFailed answer) =
+    (text : List ℕ) × (n : ℕ) × IsWhole reading.words reading.held answer text
+    × (writing.before < writing.after) × IsWritten writing (take n text)
+Tells reading writing outcome = IsReason reading outcome
 
-abbrev pub IfUnreadable : Outcome → (List ℕ → Type 0) → Type 0
-IfUnreadable (Unreadable name) P = P name
-IfUnreadable _ P = Unit {0}
+-- nothing was asked of the sink
+abbrev pub is_unwritten : Outcome → Bool
+is_unwritten (Ran report) = false
+is_unwritten Checked = false
+is_unwritten (SinkFailed answer) = false
+is_unwritten _ = true
 
-abbrev pub IfTooLong : Outcome → (List ℕ → Type 0) → Type 0
-IfTooLong (TooLong name) P = P name
-IfTooLong _ P = Unit {0}
+-- ---- which answer is given
 
-abbrev pub IfSourceRefused : Outcome → (LoadRefusal → Type 0) → Type 0
-IfSourceRefused (SourceRefused refusal) P = P refusal
-IfSourceRefused _ P = Unit {0}
+abbrev pub is_ran : Outcome → Bool
+is_ran (Ran report) = true
+is_ran _ = false
 
--- the sink was asked for something
-abbrev pub has_written : Outcome → Bool
-has_written (Ran traced) = true
-has_written (SinkFailed unwritten) = true
-has_written _ = false
+-- what a command answers for the cause that its files have
+abbrev pub IsAnswer : Command → Cause → Outcome → Type 0
+IsAnswer command (too_long file) outcome = outcome ≡ TooLong file
+IsAnswer command (plan_refused refusal) outcome = outcome ≡ PlanRefused refusal
+IsAnswer command (source_refused refusal) outcome = outcome ≡ SourceRefused refusal
+IsAnswer (Check file) (accepted plan program) outcome = outcome ≡ Checked
+IsAnswer command (accepted plan program) outcome = is_ran outcome ≡ true
 
-abbrev pub is_ran_or_memory : Outcome → Bool
-is_ran_or_memory (Ran traced) = true
-is_ran_or_memory Memory = true
-is_ran_or_memory _ = false
+-- where the library tells what it holds and no call fails, the answer is that of the files' cause, or want of memory
+abbrev pub IsDecided : Reading → Writing → Outcome → Type 0
+IsDecided reading writing outcome =
+    (content : List ℕ → Option (List ℕ)) (command : Command) (cause : Cause)
+    → reading.held ≡ Some content → command_of reading.words ≡ Ok command → IsCause reading.held command cause
+    → reading.after ≡ reading.before → writing.after ≡ writing.before
+    → (outcome ≡ Memory) ⊎ IsAnswer command cause outcome
 
-abbrev pub is_refused_or_memory : Outcome → Bool
-is_refused_or_memory (SourceRefused refusal) = true
-is_refused_or_memory Memory = true
-is_refused_or_memory _ = false
+-- ---- the status of the process
 
-abbrev pub is_too_long_or_memory : Outcome → Bool
-is_too_long_or_memory (TooLong name) = true
-is_too_long_or_memory Memory = true
-is_too_long_or_memory _ = false
+abbrev pub is_done : End → Bool
+is_done (Done value) = true
+is_done _ = false
 
--- the status of the process
-abbrev pub end_status : End → ℕ
-end_status (Done value) = 0
-end_status _ = 7
+abbrev pub report_status : Report → ℕ
+report_status report = if list_all (λ context. is_done context.«end») report.contexts then 0 else 7
 
 abbrev pub status_of : Outcome → ℕ
-status_of (Ran traced) = end_status traced.«end»
+status_of (Ran report) = report_status report
+status_of Checked = 0
 status_of (Usage fault) = 1
 status_of (Unreadable name) = 2
 status_of (TooLong name) = 2
+status_of (PlanRefused refusal) = 3
 status_of (SourceRefused refusal) = 4
-status_of (SinkFailed unwritten) = 5
+status_of (SinkFailed answer) = 5
 status_of Memory = 6
 
--- the line for standard error, without its end; none where the text was written
+-- ---- the line for standard error, without its end; none where the text was written
+
 abbrev pub usage_message : WordFault → List ℕ
 usage_message NoCommand = codes "polydbg: no command"
 usage_message UnknownCommand = codes "polydbg: unknown command"
 usage_message WordsRefused = codes "polydbg: words refused"
+
+abbrev pub plan_rule_name : PlanRule → List ℕ
+plan_rule_name plans.NotJson = codes "NotJson"
+plan_rule_name plans.Missing = codes "Missing"
+plan_rule_name plans.WrongShape = codes "WrongShape"
+plan_rule_name plans.OutOfRange = codes "OutOfRange"
+plan_rule_name plans.UnknownWord = codes "UnknownWord"
+plan_rule_name plans.UnknownMember = codes "UnknownMember"
+plan_rule_name plans.NoSuch = codes "NoSuch"
+plan_rule_name plans.BadCondition = codes "BadCondition"
+plan_rule_name plans.NotAnObserver = codes "NotAnObserver"
+plan_rule_name plans.NotBuilt = codes "NotBuilt"
+
+abbrev pub plan_message : PlanRefusal → List ℕ
+plan_message refusal = joined (codes "polydbg: plan " ∷ plan_rule_name refusal.rule ∷ codes " at " ∷ refusal.path ∷ [])
 
 abbrev pub rule_name : Rule → List ℕ
 rule_name BadByte = codes "BadByte"
@@ -141,10 +203,12 @@ refusal_message refusal = joined (
     codes "polydbg: source " ∷ decimal refusal.source ∷ codes " " ∷ cause_name refusal.cause ∷ codes " at " ∷ decimal (cause_place refusal.cause) ∷ [])
 
 abbrev pub message_of : Outcome → List ℕ
-message_of (Ran traced) = []
+message_of (Ran report) = []
+message_of Checked = []
 message_of (Usage fault) = usage_message fault
 message_of (Unreadable name) = joined (codes "polydbg: cannot read " ∷ name ∷ [])
 message_of (TooLong name) = joined (codes "polydbg: too long " ∷ name ∷ [])
+message_of (PlanRefused refusal) = plan_message refusal
 message_of (SourceRefused refusal) = refusal_message refusal
-message_of (SinkFailed unwritten) = codes "polydbg: cannot write"
+message_of (SinkFailed answer) = codes "polydbg: cannot write"
 message_of Memory = codes "polydbg: out of memory"

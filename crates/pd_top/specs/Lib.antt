@@ -1,6 +1,6 @@
 pub mod Words
-pub mod Lines
-pub mod Transcript
 pub mod Plans
-pub mod Loading
+pub mod Files
+pub mod Causes
 pub mod Answers
+pub mod Stops

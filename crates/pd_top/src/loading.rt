@@ -1,46 +1,63 @@
-//! From a file's bytes to its program.
-ghost use Rattle.std.specs.Prelude.{◌≡◌, ◌<◌, ◌≤◌, length, vec_len, IfOk, IfErr};
-ghost use Rattle.std.specs.Str.{IsUtf8};
-ghost use Rattle.pd_top.specs.Loading.{IsProgramOf, StopsLoad};
+//! From the files of a plan to its program.
+ghost use Rattle.std.specs.Prelude.{◌≡◌, ◌≤◌, ◌<◌, length, IfOk, OnOk, IfErr};
+ghost use Rattle.std.specs.List.{AllByRecursion};
+ghost use Rattle.pd_plan.specs.Sound.{IsSound};
+ghost use Rattle.pd_load.specs.Tables.{IsText};
+ghost use Rattle.pd_load.specs.Loading.{IsLoaded};
+ghost use Rattle.pd_top.specs.Stops.{StopsSource, StopsTexts, StopsLoad};
 
-use crate::plans::trace_plan;
+use crate::files::File;
 use pd_load::{LoadCause, LoadRefusal, load};
+use pd_plan::Plan;
 use pd_sections::{NotUtf8, Source, Stop};
 use pd_tree::Program;
 use std::alloc::Global;
 
-// The number of the one source.
-const SOURCE: u32 = 0;
-
-// The source of this name.
-fn source_of(alloc: Global, name: &str, bytes: Vec<u8>) -> Result<Source, Stop<LoadRefusal>>
-    requires short { vec_len bytes ≤ 1048576 }
-    ensures source { IfOk result (λ source. source ≡ record { name = name.now; bytes = bytes.items }) }
-    ensures utf8 { IfOk result (λ _. IsUtf8 bytes.items) }
-    ensures refused { IfErr result (StopsLoad name.now bytes.items) }
+// The source of this number.
+fn source_of(alloc: Global, number: u32, file: File) -> Result<Source, Stop<LoadRefusal>>
+    ensures source { IfOk result (λ source. source ≡ file) }
+    ensures text { OnOk result (IsText file) }
+    ensures refused { IfErr result (StopsSource number file) }
 {
-    match Source::new(alloc, String::from_str(alloc, name)?, bytes) {
+    match Source::new(alloc, file.name, file.bytes) {
         Ok(source) => Ok(source),
         Err(Stop::Memory) => Err(Stop::Memory),
         Err(Stop::Refused(NotUtf8 { at })) => Err(Stop::Refused(LoadRefusal {
-            source: SOURCE,
+            source: number,
             cause: LoadCause::NotUtf8 { at },
         })),
     }
 }
 
-/// The program of the source of this name.
+// The sources of these files.
+fn sources_of(alloc: Global, files: Vec<File>) -> Result<Vec<Source>, Stop<LoadRefusal>>
+    requires few { length files.items ≤ 16 }
+    ensures sources { IfOk result (λ sources. sources.items ≡ files.items) }
+    ensures texts { OnOk result (AllByRecursion IsText files.items) }
+    ensures refused { IfErr result (StopsTexts files.items) }
+{
+    let mut sources = Vec::new(alloc);
+    for file in files {
+        let number = sources.len() as u32;
+        sources.push(source_of(alloc, number, file)?)?;
+    }
+    Ok(sources)
+}
+
+/// The program of a plan with these files of its sources, in its order.
 pub(crate) fn program_of(
     alloc: Global,
-    name: &str,
-    bytes: Vec<u8>,
+    plan: &Plan,
+    files: Vec<File>,
 ) -> Result<Program, Stop<LoadRefusal>>
-    requires short { vec_len bytes ≤ 1048576 }
-    ensures program { IfOk result (IsProgramOf name.now bytes.items) }
+    requires sound { IsSound plan.now }
+    requires each { length files.items ≡ length plan.now.sources }
+    requires one { length plan.now.contexts ≡ 1 }
+    ensures texts { OnOk result (AllByRecursion IsText files.items) }
+    ensures loaded { IfOk result (IsLoaded plan.now files.items) }
     ensures entry { IfOk result (λ program. 0 < length program.entries) }
-    ensures refused { IfErr result (StopsLoad name.now bytes.items) }
+    ensures refused { IfErr result (StopsLoad plan.now files.items) }
 {
-    let source = source_of(alloc, name, bytes)?;
-    let plan = trace_plan(alloc, name)?;
-    load(alloc, &[source], &plan)
+    let sources = sources_of(alloc, files)?;
+    load(alloc, sources.as_slice(), plan)
 }

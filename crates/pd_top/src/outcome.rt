@@ -1,40 +1,76 @@
 //! The answers of the top call.
 ghost use Rattle.std.specs.Prelude.{◌≡◌, ◌++◌, IfOk, OnOk, string_bytes};
-ghost use Rattle.pd_top.specs.Answers.{end_status, usage_message, rule_name, cause_name, cause_place, refusal_message};
+ghost use Rattle.pd_top.specs.Answers.{is_done, report_status, usage_message, plan_rule_name, rule_name, cause_name, cause_place, refusal_message};
 
 use crate::words::WordFault;
 use pd_load::{LoadCause, LoadRefusal};
+use pd_plan::{PlanRefusal, PlanRule};
+use pd_report::Report;
 use pd_sections::Rule;
-use pd_trace::Traced;
 use pd_values::{End, Text};
-use std::alloc::{AllocError, Global};
+use std::alloc::{AllocError, AllocFailed, Global};
 
-/// The answer that was to be given where the text couldn't be written whole.
+/// The answer that was to be given where its text couldn't be written whole.
 #[derive(Drop)]
 pub enum Unwritten {
-    Ran(Traced),
+    Ran(Report),
+    Checked,
 }
 
-/// What became of a command. `Ran` has the record of a run whose text was written whole; `Usage` says why the words
-/// are no command; `Unreadable` and `TooLong` have the name of the file; `SinkFailed` has the answer that was to be given.
+/// What became of a command. `Ran` has the report of a run whose text was written whole, `Checked` says that plan and
+/// sources are accepted and the line was written; `Usage` says why the words are no command; `Unreadable` and `TooLong`
+/// have the name of the file; `SinkFailed` has the answer that was to be given.
 #[derive(Drop)]
 pub enum Outcome {
-    Ran(Traced),
+    Ran(Report),
+    Checked,
     Usage(WordFault),
     Unreadable(Text),
     TooLong(Text),
+    PlanRefused(PlanRefusal),
     SourceRefused(LoadRefusal),
     SinkFailed(Unwritten),
     Memory,
 }
 
-fn end_status(end: &End) -> u8
-    ensures { result ≡ end_status end.now }
-{
-    match end {
-        End::Done(_) => 0,
-        _ => 7,
+impl From<AllocError> for Outcome {
+    ghost use Rattle.std.specs.Prelude.{◌≡◌};
+    ghost use Rattle.pd_top.specs.declared.outcome.Outcome.TheVariants.{Memory};
+
+    ghost from_gives = { λ _ outcome. outcome ≡ Memory };
+
+    fn from(_e: AllocError) -> Outcome {
+        Outcome::Memory
     }
+}
+
+impl<T: Drop> From<AllocFailed<T>> for Outcome {
+    ghost use Rattle.std.specs.Prelude.{◌≡◌};
+    ghost use Rattle.pd_top.specs.declared.outcome.Outcome.TheVariants.{Memory};
+
+    ghost from_gives = { λ _ outcome. outcome ≡ Memory };
+
+    fn from(_e: AllocFailed<T>) -> Outcome {
+        Outcome::Memory
+    }
+}
+
+fn is_done(end: &End) -> bool
+    ensures { result ≡ is_done end.now }
+{
+    matches!(end, End::Done(_))
+}
+
+// 0, or 7 where some context ended otherwise than done.
+fn report_status(report: &Report) -> u8
+    ensures { result ≡ report_status report.now }
+{
+    for context in report.contexts.as_slice() {
+        if !is_done(&context.end) {
+            return 7;
+        }
+    }
+    0
 }
 
 fn usage_message(fault: WordFault) -> &'static str
@@ -44,6 +80,23 @@ fn usage_message(fault: WordFault) -> &'static str
         WordFault::NoCommand => "polydbg: no command",
         WordFault::UnknownCommand => "polydbg: unknown command",
         WordFault::Refused => "polydbg: words refused",
+    }
+}
+
+fn plan_rule_name(rule: PlanRule) -> &'static str
+    ensures { result.now ≡ plan_rule_name rule }
+{
+    match rule {
+        PlanRule::NotJson => "NotJson",
+        PlanRule::Missing => "Missing",
+        PlanRule::WrongShape => "WrongShape",
+        PlanRule::OutOfRange => "OutOfRange",
+        PlanRule::UnknownWord => "UnknownWord",
+        PlanRule::UnknownMember => "UnknownMember",
+        PlanRule::NoSuch => "NoSuch",
+        PlanRule::BadCondition => "BadCondition",
+        PlanRule::NotAnObserver => "NotAnObserver",
+        PlanRule::NotBuilt => "NotBuilt",
     }
 }
 
@@ -91,15 +144,18 @@ fn push_refusal(message: &mut String, refusal: LoadRefusal) -> Result<(), AllocE
 impl Outcome {
     ghost use Rattle.pd_top.specs.Answers.{status_of, message_of};
 
-    /// The status with which the process ends: 0, or 7 where the run ended otherwise than done; 1 for words that are
-    /// no command, 2 for a file that is unreadable or too long, 4 for a refused source, 5 for a failed write, 6 for want of memory.
+    /// The status with which the process ends: 0, or 7 where a context ended otherwise than done; 1 for words that are
+    /// no command, 2 for a file that is unreadable or too long, 3 for a refused plan, 4 for a refused source, 5 for a
+    /// failed write, 6 for want of memory.
     pub fn status(&self) -> u8
         ensures { result ≡ status_of self.now }
     {
         match self {
-            Outcome::Ran(traced) => end_status(&traced.end),
+            Outcome::Ran(report) => report_status(report),
+            Outcome::Checked => 0,
             Outcome::Usage(_) => 1,
             Outcome::Unreadable(_) | Outcome::TooLong(_) => 2,
+            Outcome::PlanRefused(_) => 3,
             Outcome::SourceRefused(_) => 4,
             Outcome::SinkFailed(_) => 5,
             Outcome::Memory => 6,
@@ -112,12 +168,16 @@ impl Outcome {
     {
         let mut message = String::new(alloc);
         match self {
-            Outcome::Ran(_) => {}
+            Outcome::Ran(_) | Outcome::Checked => {}
             Outcome::Usage(fault) => message.push_str(usage_message(*fault))?,
             Outcome::Unreadable(name) => {
                 write!(message, "polydbg: cannot read {}", name.as_str())?
             }
             Outcome::TooLong(name) => write!(message, "polydbg: too long {}", name.as_str())?,
+            Outcome::PlanRefused(PlanRefusal { rule, path }) => {
+                let name = plan_rule_name(*rule);
+                write!(message, "polydbg: plan {name} at {}", path.as_str())?
+            }
             Outcome::SourceRefused(refusal) => push_refusal(&mut message, *refusal)?,
             Outcome::SinkFailed(_) => message.push_str("polydbg: cannot write")?,
             Outcome::Memory => message.push_str("polydbg: out of memory")?,

@@ -1,13 +1,14 @@
 //! The plan that `trace` runs.
 ghost use Rattle.std.specs.Prelude.{◌≡◌, [], ◌∷◌, IfOk};
+ghost use Rattle.pd_plan_json.specs.Served.{IsServed};
 ghost use Rattle.pd_top.specs.Plans.{is_pl0_name, language_of, statements, trace_plan};
 
 use pd_plan::{BindingSpec, ContextSpec, Filter, Language, Plan, Script, SourceSpec};
 use pd_values::{Items, Tag, Text};
 use std::alloc::{AllocError, Global};
 
-/// The fuel of a context.
-pub(crate) const FUEL: u32 = 1_000_000;
+// The fuel of a context.
+const FUEL: u32 = 1_000_000;
 
 // A list of this one item.
 fn one<T: Drop>(alloc: Global, item: T) -> Result<Items<T>, AllocError>
@@ -57,7 +58,8 @@ fn language_of(name: &str) -> Language
 /// The plan with the one source of this name, one context at its `main`, and one observer of statements that the one
 /// session attaches before the run.
 pub(crate) fn trace_plan(alloc: Global, name: &str) -> Result<Plan, AllocError>
-    ensures { IfOk result (λ plan. plan ≡ trace_plan name.now) }
+    ensures plan { IfOk result (λ plan. plan ≡ trace_plan name.now) }
+    ensures served { IfOk result IsServed }
 {
     let source = SourceSpec {
         name: Text::of(String::from_str(alloc, name)?),

@@ -1,18 +1,19 @@
 //! The top call.
-ghost use Rattle.std.specs.Prelude.{◌≡◌, ◌≤◌, ◌<◌, ◌↔◌, ℕ, List, Option, Ok, Err, Some, length, take, IsTrue, IsFalse, OnOk, OnErr, string_bytes};
+ghost use Rattle.std.specs.Prelude.{◌≡◌, ◌≤◌, ◌<◌, ℕ, true, false, Err, take, length, IfOk, IfErr, OnOk, OnErr};
 ghost use Rattle.std.specs.Io.KnownBytes.{append_known};
-ghost use Rattle.pd_tree.specs.Program.{Program};
+ghost use Rattle.pd_plan_json.specs.Served.{IsServed};
 ghost use Rattle.pd_top.specs.declared.words.WordFault.{WordFault};
 ghost use Rattle.pd_top.specs.Words.{texts, command_of};
-ghost use Rattle.pd_load.specs.declared.refusal.LoadRefusal.{LoadRefusal};
-ghost use Rattle.pd_top.specs.Loading.{IsProgramOf, IsRefusal, IsLong, IsSourceRefused, most_bytes};
-ghost use Rattle.pd_top.specs.Answers.{IsTraceOf, IsFault, IfRan, IfUnwritten, IfUnreadable, IfTooLong, IfSourceRefused, has_written, is_ran_or_memory, is_too_long_or_memory, is_refused_or_memory};
+ghost use Rattle.pd_top.specs.Answers.{Reading, IsTextOf, IsWhole, IsReason, Tells, IsDecided, is_unwritten};
 
+use crate::accepting::{Accepted, accept};
 use crate::outcome::{Outcome, Unwritten};
-use crate::tracing::{Untraced, trace};
-use crate::words::command;
+use crate::words::{Command, read_words};
+use pd_host::run_plan;
 use pd_outside::{Failed, Gate, Library, Sink};
-use std::alloc::Global;
+use pd_report::{check_line, text_of};
+use pd_values::Text;
+use std::alloc::{AllocError, Global};
 use std::thread::Threads;
 
 // So many bytes are written at once.
@@ -34,10 +35,93 @@ fn write_whole<K: Sink>(out: &mut K, bytes: &[u8]) -> Result<(), Failed>
     Ok(())
 }
 
-/// Does a command: reads the words, fetches the file, runs it, makes the whole text and writes it in pieces.
+/// An answer with its whole text, which is still to be written.
+#[derive(Drop)]
+struct Prepared {
+    answer: Unwritten,
+    text: Text,
+}
+
+// What a command answers for a plan and its program.
+fn answer_of<G: Gate>(
+    alloc: Global,
+    command: &Command,
+    accepted: &Accepted,
+    gate: &G,
+) -> Result<Prepared, AllocError>
+    requires served { IsServed accepted.now.plan }
+    requires entry { 0 < length accepted.now.program.entries }
+    ensures { IfOk result (λ p. IsTextOf command.now accepted.now.plan accepted.now.program p.answer p.text) }
+{
+    let Accepted { plan, program } = accepted;
+    match command {
+        Command::Trace(_) | Command::Run(_) => {
+            let report = run_plan(alloc, plan, program, gate)?;
+            let text = text_of(alloc, &report, plan, program)?;
+            Ok(Prepared {
+                answer: Unwritten::Ran(report),
+                text,
+            })
+        }
+        Command::Check(_) => Ok(Prepared {
+            answer: Unwritten::Checked,
+            text: check_line(alloc, plan, program)?,
+        }),
+    }
+}
+
+// Does a command up to its text. An error is an answer with which nothing is written.
+fn prepare<L: Library, G: Gate>(
+    alloc: Global,
+    words: &[String],
+    files: &mut L,
+    gate: &G,
+) -> Result<Prepared, Outcome>
+    ensures whole { IfOk result (λ p. IsWhole (texts words.now) (L.held files.old) p.answer p.text) }
+    ensures reason { IfErr result (IsReason (record {
+      words = texts words.now;
+      held = L.held files.old;
+      before = L.faults files.old;
+      after = L.faults files.new;
+      last = L.last_fault files.new;
+    })) }
+    ensures usage { (fault : WordFault) → command_of (texts words.now) ≡ Err fault → result ≡ Err (Outcome.Usage fault) }
+    ensures nothing_fetched { (fault : WordFault) → result ≡ Err (Outcome.Usage fault) → files.new ≡ files.old }
+    ensures held { L.held files.new ≡ L.held files.old }
+    ensures count { L.faults files.old ≤ L.faults files.new }
+{
+    let command = read_words(alloc, words)?;
+    let accepted = accept(alloc, &command, files)?;
+    Ok(answer_of(alloc, &command, &accepted, gate)?)
+}
+
+// Writes the text of an answer.
+fn write_answer<K: Sink>(out: &mut K, prepared: Prepared) -> Outcome
+    ensures tells { (reading : Reading) → IsWhole reading.words reading.held prepared.answer prepared.text
+        → Tells reading (record {
+          taken = K.taken out.old;
+          now = K.taken out.new;
+          before = K.faults out.old;
+          after = K.faults out.new;
+        }) result }
+    ensures written { is_unwritten result ≡ false }
+    ensures count { K.faults out.old ≤ K.faults out.new }
+{
+    let Prepared { answer, text } = prepared;
+    match write_whole(out, text.as_str().as_bytes()) {
+        Err(Failed) => Outcome::SinkFailed(answer),
+        Ok(()) => match answer {
+            Unwritten::Ran(report) => Outcome::Ran(report),
+            Unwritten::Checked => Outcome::Checked,
+        },
+    }
+}
+
+/// Does a command: reads the words and the files, makes the whole text and writes it in pieces. The order is: words, the
+/// plan's file, plan, the file of each source, whether all sources are UTF-8, load, run, text, write.
 ///
-/// `rt` is for the threads of later commands; the gate is asked at each event. The file is asked for with one byte
-/// more than a source may have. What is answered, and when, is the contract; want of memory is free.
+/// `rt` is for the threads of later commands; the gate is asked at each event. A file is asked for with one byte more
+/// than a plan or source may have. Want of memory is free.
 pub fn run<R: Threads + Sync, L: Library, K: Sink, G: Gate>(
     _rt: &R,
     alloc: Global,
@@ -46,77 +130,30 @@ pub fn run<R: Threads + Sync, L: Library, K: Sink, G: Gate>(
     out: &mut K,
     gate: &G,
 ) -> Outcome
-    // The text is written whole, and is that of the run which the words ask for.
-    ensures ran { IfRan result (λ traced. (file : List ℕ) × (text : List ℕ)
-        × (command_of (texts words.now) ≡ Ok file)
-        × IsTraceOf (L.held files.old) file traced text
-        × (K.taken out.new ≡ append_known (K.taken out.old) text)) }
+    // What each answer says: `Tells` has a line for each.
+    ensures tells { Tells
+        (record { words = texts words.now; held = L.held files.old; before = L.faults files.old; after = L.faults files.new; last = L.last_fault files.new })
+        (record { taken = K.taken out.old; now = K.taken out.new; before = K.faults out.old; after = K.faults out.new }) result }
 
-    // The words are no command.
-    ensures usage { (fault : WordFault) → (result ≡ Outcome.Usage fault) ↔ (command_of (texts words.now) ≡ Err fault) }
+    // Which one is given: that of the one cause that the files have, where no call fails, or want of memory.
+    ensures decided { IsDecided
+        (record { words = texts words.now; held = L.held files.old; before = L.faults files.old; after = L.faults files.new; last = L.last_fault files.new })
+        (record { taken = K.taken out.old; now = K.taken out.new; before = K.faults out.old; after = K.faults out.new }) result }
+
+    // Words that are no command are always answered so, and then no file is asked for.
+    ensures usage { (fault : WordFault) → command_of (texts words.now) ≡ Err fault → result ≡ Outcome.Usage fault }
     ensures nothing_fetched { (fault : WordFault) → result ≡ Outcome.Usage fault → files.new ≡ files.old }
 
-    // The library failed, at this file.
-    ensures unreadable { IfUnreadable result (λ name.
-        (command_of (texts words.now) ≡ Ok name)
-        × IsFault (L.faults files.old) (L.faults files.new) (L.last_fault files.new) name) }
-
-    // The file was read, and has more bytes than a source may have.
-    ensures too_long { IfTooLong result (λ name.
-        (command_of (texts words.now) ≡ Ok name)
-        × IsLong (L.held files.old) name) }
-
-    // The file was read, and this is why its source isn't run.
-    ensures refused { IfSourceRefused result (λ refusal. (file : List ℕ)
-        × (command_of (texts words.now) ≡ Ok file)
-        × IsSourceRefused (L.held files.old) file refusal) }
-
-    // The sink failed, and took some first bytes of the text that was to be written.
-    ensures unwritten { IfUnwritten result (λ traced. (file : List ℕ) × (text : List ℕ) × (n : ℕ)
-        × (command_of (texts words.now) ≡ Ok file)
-        × IsTraceOf (L.held files.old) file traced text
-        × (K.faults out.old < K.faults out.new)
-        × (K.taken out.new ≡ append_known (K.taken out.old) (take n text))) }
-
-    // Nothing is written at another answer.
-    ensures nothing_written { IsFalse (has_written result) → out.new ≡ out.old }
-
-    // Without a fault a source that nothing refuses is run, one that has no program is refused, and a file that is too
-    // long is told as such, unless memory is wanting.
-    ensures runs { (file bytes : List ℕ) (held : List ℕ → Option (List ℕ))
-        → command_of (texts words.now) ≡ Ok file → L.held files.old ≡ Some held → held file ≡ Some bytes
-        → length bytes ≤ most_bytes → ((refusal : LoadRefusal) → IsRefusal file bytes refusal → ⊥)
-        → L.faults files.new ≡ L.faults files.old → K.faults out.new ≡ K.faults out.old
-        → IsTrue (is_ran_or_memory result) }
-    ensures refuses { (file bytes : List ℕ) (held : List ℕ → Option (List ℕ))
-        → command_of (texts words.now) ≡ Ok file → L.held files.old ≡ Some held → held file ≡ Some bytes
-        → length bytes ≤ most_bytes → ((program : Program) → IsProgramOf file bytes program → ⊥)
-        → L.faults files.new ≡ L.faults files.old
-        → IsTrue (is_refused_or_memory result) }
-    ensures measures { (file bytes : List ℕ) (held : List ℕ → Option (List ℕ))
-        → command_of (texts words.now) ≡ Ok file → L.held files.old ≡ Some held → held file ≡ Some bytes
-        → most_bytes < length bytes
-        → L.faults files.new ≡ L.faults files.old
-        → IsTrue (is_too_long_or_memory result) }
+    // With an answer other than `Ran`, `Checked` and `SinkFailed` nothing is written.
+    ensures nothing_written { is_unwritten result ≡ true → out.new ≡ out.old }
 
     // The library keeps what it holds, and no count falls.
     ensures held { L.held files.new ≡ L.held files.old }
     ensures library_count { L.faults files.old ≤ L.faults files.new }
     ensures sink_count { K.faults out.old ≤ K.faults out.new }
 {
-    let name = match command(words) {
-        Ok(name) => name,
-        Err(fault) => return Outcome::Usage(fault),
-    };
-    let trace = match trace(alloc, name.as_str(), files, gate) {
-        Ok(trace) => trace,
-        Err(Untraced::Unreadable(name)) => return Outcome::Unreadable(name),
-        Err(Untraced::TooLong(name)) => return Outcome::TooLong(name),
-        Err(Untraced::Refused(refusal)) => return Outcome::SourceRefused(refusal),
-        Err(Untraced::Memory) => return Outcome::Memory,
-    };
-    match write_whole(out, trace.text.as_bytes()) {
-        Ok(()) => Outcome::Ran(trace.traced),
-        Err(Failed) => Outcome::SinkFailed(Unwritten::Ran(trace.traced)),
+    match prepare(alloc, words, files, gate) {
+        Ok(prepared) => write_answer(out, prepared),
+        Err(outcome) => outcome,
     }
 }

@@ -1,13 +1,27 @@
 //! The words of a command.
-ghost use Rattle.std.specs.Prelude.{◌≡◌, string_bytes, MatchResult, Ok, Err};
-ghost use Rattle.pd_top.specs.Words.{texts, command_of, is_dash_word};
+ghost use Rattle.std.specs.Prelude.{◌≡◌, MatchResult, Ok};
+ghost use Rattle.pd_top.specs.Words.{texts, file_of, command_of, is_dash_word};
+ghost use Rattle.pd_top.specs.Stops.{StopsFile, StopsWords};
+
+use crate::outcome::Outcome;
+use pd_values::Text;
+use std::alloc::Global;
 
 /// Why words are no command: there are none, the first is no command, or what follows it is refused.
-#[derive(Clone, Copy, Debug, PartialEq, Eq)]
+#[derive(Clone, Copy, Drop, Debug, PartialEq, Eq)]
 pub enum WordFault {
     NoCommand,
     UnknownCommand,
     Refused,
+}
+
+/// What words ask for, with the name of the file: to run one source under an observer of all statements, to run a
+/// plan, or to check one.
+#[derive(Drop)]
+pub enum Command {
+    Trace(Text),
+    Run(Text),
+    Check(Text),
 }
 
 fn is_dash_word(word: &str) -> bool
@@ -16,16 +30,27 @@ fn is_dash_word(word: &str) -> bool
     word.len() > 1 && word.as_bytes()[0] == b'-'
 }
 
-/// The file that these words ask to trace.
-pub(crate) fn command(words: &[String]) -> Result<&String, WordFault>
-    ensures { MatchResult result
-        (λ file. command_of (texts words.now) ≡ Ok (string_bytes file.now))
-        (λ fault. command_of (texts words.now) ≡ Err fault) }
+// The one word.
+fn file(alloc: Global, words: &[String]) -> Result<Text, Outcome>
+    ensures { MatchResult result (λ file. file_of (texts words.now) ≡ Ok file) (StopsFile (texts words.now)) }
 {
     match words {
-        [] => Err(WordFault::NoCommand),
-        [command, ..] if command.as_str() != "trace" => Err(WordFault::UnknownCommand),
-        [_, file] if !is_dash_word(file) => Ok(file),
-        _ => Err(WordFault::Refused),
+        [file] if !is_dash_word(file) => Ok(Text::of(String::from_str(alloc, file)?)),
+        _ => Err(Outcome::Usage(WordFault::Refused)),
+    }
+}
+
+/// What the words ask for.
+pub(crate) fn read_words(alloc: Global, words: &[String]) -> Result<Command, Outcome>
+    ensures { MatchResult result (λ command. command_of (texts words.now) ≡ Ok command) (StopsWords (texts words.now)) }
+{
+    let [first, rest @ ..] = words else {
+        return Err(Outcome::Usage(WordFault::NoCommand));
+    };
+    match first.as_str() {
+        "trace" => Ok(Command::Trace(file(alloc, rest)?)),
+        "run" => Ok(Command::Run(file(alloc, rest)?)),
+        "check" => Ok(Command::Check(file(alloc, rest)?)),
+        _ => Err(Outcome::Usage(WordFault::UnknownCommand)),
     }
 }

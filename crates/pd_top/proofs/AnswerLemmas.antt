@@ -1,0 +1,95 @@
+-- What an answer says, and which one is given.
+use Rattle.std.proofs.Common.{◌≡◌, ◌∙◌, ℕ, List, refl, ap, sym, subst, arith, inl, inr, Option, Some, Ok, Err, Result}
+use Rattle.std.specs.Prelude.{◌⊎◌}
+use Rattle.pd_plan.specs.declared.plan.Plan.{Plan}
+use Rattle.pd_tree.specs.Program.{Program}
+use Rattle.pd_report.specs.declared.report.Report.{Report}
+use Rattle.pd_top.specs.declared.words.Command.{Command}
+use Rattle.pd_top.specs.declared.words.Command.TheVariants.{Trace, Run, Check}
+use Rattle.pd_top.specs.declared.words.WordFault.{WordFault}
+use Rattle.pd_top.specs.declared.outcome.Unwritten.TheVariants as unwritten
+use Rattle.pd_top.specs.declared.outcome.Outcome.{Outcome}
+use Rattle.pd_top.specs.declared.outcome.Outcome.TheVariants.{Ran, Checked, Usage, Unreadable, TooLong, PlanRefused, SourceRefused, SinkFailed, Memory}
+use Rattle.pd_top.specs.Words.{command_of}
+use Rattle.pd_top.specs.Files.{Held}
+use Rattle.pd_top.specs.Causes.{Cause, too_long, plan_refused, source_refused, accepted, IsCause}
+use Rattle.pd_top.specs.Answers.{Reading, Writing, IsTextOf, IsWhole, IsDueTo, IsReason, Tells, IsAnswer, IsDecided, is_ran}
+use Rattle.pd_top.specs.Stops.{StopsWords, StopsAccepting}
+use Rattle.pd_top.proofs.CauseLemmas.{Agrees, one_cause}
+
+-- ---- why nothing is written
+
+pub words_reason : (reading : Reading) (outcome : Outcome) → StopsWords reading.words outcome → IsReason reading outcome
+words_reason reading (Usage fault) stops = stops
+words_reason reading Memory stops = tt
+words_reason reading outcome stops = absurd stops
+
+pub accepting_reason : (reading : Reading) (command : Command) (outcome : Outcome) → command_of reading.words ≡ Ok command
+    → StopsAccepting reading.held command reading.before reading.after reading.last outcome → IsReason reading outcome
+accepting_reason reading command (Unreadable name) asked stops = (command, asked, stops.0, stops.1)
+accepting_reason reading command (TooLong name) asked stops = (command, asked, stops)
+accepting_reason reading command (PlanRefused refusal) asked stops = (command, asked, stops)
+accepting_reason reading command (SourceRefused refusal) asked stops = (command, asked, stops)
+accepting_reason reading command Memory asked stops = tt
+accepting_reason reading command outcome asked stops = absurd stops
+
+pub tells_reason : (reading : Reading) (writing : Writing) (outcome : Outcome) → IsReason reading outcome → Tells reading writing outcome
+tells_reason reading writing (Ran report) reason = absurd reason
+tells_reason reading writing Checked reason = absurd reason
+tells_reason reading writing (SinkFailed answer) reason = absurd reason
+tells_reason reading writing outcome reason = reason
+
+-- ---- which answer is given
+
+-- causes that agree have one answer
+agreed : (command : Command) (x y : Cause) (outcome : Outcome) → Agrees x y → IsAnswer command x outcome → IsAnswer command y outcome
+agreed command (too_long a) (too_long b) outcome agree answer = answer ∙ ap TooLong agree
+agreed command (plan_refused a) (plan_refused b) outcome agree answer = answer ∙ ap PlanRefused agree
+agreed command (source_refused a) (source_refused b) outcome agree answer = answer ∙ ap SourceRefused agree
+agreed (Trace file) (accepted p a) (accepted q b) outcome agree answer = answer
+agreed (Run file) (accepted p a) (accepted q b) outcome agree answer = answer
+agreed (Check file) (accepted p a) (accepted q b) outcome agree answer = answer
+agreed command x y outcome agree answer = absurd agree
+
+-- the answer of one cause is that of the other
+decided_by : (reading : Reading) (outcome : Outcome) (command other : Command) (x y : Cause) (content : List ℕ → Option (List ℕ))
+    → command_of reading.words ≡ Ok command → IsCause reading.held command x → IsAnswer command x outcome
+    → reading.held ≡ Some content → command_of reading.words ≡ Ok other → IsCause reading.held other y → IsAnswer other y outcome
+decided_by reading outcome command other x y content asked cause answer tells also_asked also =
+    let same : command ≡ other = cc in
+    let first = subst (λ c. IsCause reading.held c x) same cause in
+    let agree : Agrees x y = one_cause content other x y (subst (λ h. IsCause h other x) tells first) (subst (λ h. IsCause h other y) tells also) in
+    agreed other x y outcome agree (subst (λ c. IsAnswer c x outcome) same answer)
+
+ran_answer : (command : Command) (plan : Plan) (program : Program) (report : Report) (text : List ℕ)
+    → IsTextOf command plan program (unwritten.Ran report) text → IsAnswer command (accepted plan program) (Ran report)
+ran_answer (Trace file) plan program report text is = refl
+ran_answer (Run file) plan program report text is = refl
+ran_answer (Check file) plan program report text is = absurd is
+
+checked_answer : (command : Command) (plan : Plan) (program : Program) (text : List ℕ)
+    → IsTextOf command plan program unwritten.Checked text → IsAnswer command (accepted plan program) Checked
+checked_answer (Trace file) plan program text is = absurd is
+checked_answer (Run file) plan program text is = absurd is
+checked_answer (Check file) plan program text is = refl
+
+pub decided : (reading : Reading) (writing : Writing) (outcome : Outcome) → Tells reading writing outcome → IsDecided reading writing outcome
+decided reading writing (Ran report) (text, whole, written) = λ content command cause tells asked also read_well wrote_well.
+    inr (decided_by reading (Ran report) whole.command command (accepted whole.plan whole.program) cause content whole.asked whole.accepts
+    (ran_answer whole.command whole.plan whole.program report text whole.text_is) tells asked also)
+decided reading writing Checked (line, whole, written) = λ content command cause tells asked also read_well wrote_well.
+    inr (decided_by reading Checked whole.command command (accepted whole.plan whole.program) cause content whole.asked whole.accepts
+    (checked_answer whole.command whole.plan whole.program line whole.text_is) tells asked also)
+decided reading writing (Usage fault) none = λ content command cause tells asked also read_well wrote_well.
+    let both : ◌≡◌ {A = Result Command WordFault} (Err fault) (Ok command) = sym none ∙ asked in cc
+decided reading writing (Unreadable name) (first, asked_first, reached, fault) = λ content command cause tells asked also read_well wrote_well.
+    absurd (omega (arith, fault.risen, read_well))
+decided reading writing (TooLong name) (first, asked_first, due) = λ content command cause tells asked also read_well wrote_well.
+    inr (decided_by reading (TooLong name) first command (too_long name) cause content asked_first due refl tells asked also)
+decided reading writing (PlanRefused refusal) (first, asked_first, due) = λ content command cause tells asked also read_well wrote_well.
+    inr (decided_by reading (PlanRefused refusal) first command (plan_refused refusal) cause content asked_first due refl tells asked also)
+decided reading writing (SourceRefused refusal) (first, asked_first, due) = λ content command cause tells asked also read_well wrote_well.
+    inr (decided_by reading (SourceRefused refusal) first command (source_refused refusal) cause content asked_first due refl tells asked also)
+decided reading writing (SinkFailed answer) (text, n, whole, risen, written) = λ content command cause tells asked also read_well wrote_well.
+    absurd (omega (arith, risen, wrote_well))
+decided reading writing Memory none = λ content command cause tells asked also read_well wrote_well. inl refl

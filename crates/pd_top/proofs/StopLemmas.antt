@@ -1,0 +1,48 @@
+-- Why a command has no plan and sources, from what stops its steps.
+use Rattle.std.proofs.Common.{◌≡◌, ◌<◌, ◌≤◌, ◌∙◌, ℕ, List, take, slice_get, refl, ap, sym, subst, arith, inl, inr, Option, Some, Ok, Err}
+use Rattle.pd_sections.specs.Written.{Written}
+use Rattle.pd_plan.specs.declared.plan.SourceSpec.{SourceSpec}
+use Rattle.pd_plan.specs.declared.plan.Plan.{Plan}
+use Rattle.pd_top.specs.declared.words.Command.{Command}
+use Rattle.pd_top.specs.declared.outcome.Outcome.{Outcome}
+use Rattle.pd_top.specs.declared.outcome.Outcome.TheVariants.{Unreadable, TooLong, PlanRefused, Memory}
+use Rattle.pd_top.specs.Files.{Held, IsFault, IsLong, AreSources}
+use Rattle.pd_top.specs.Causes.{plan_file, IsPlanOf}
+use Rattle.pd_top.specs.Stops.{StopsFetch, StopsPlan, StopsSources, StopsAccepting}
+use Rattle.pd_top.proofs.FileLemmas.{reached_next}
+
+-- a later fault is a fault of the whole call
+fault_since : (before mid after : ℕ) (last : Option (List ℕ)) (file : List ℕ) → before ≤ mid → IsFault mid after last file → IsFault before after last file
+fault_since before mid after last file earlier fault = record { risen = omega (arith, earlier, fault.risen); at_file = fault.at_file }
+
+-- a source's file that isn't read, behind those that are
+pub fetch_stops : (held : Held) (ss : List SourceSpec) (ws : List Written) (i : ℕ) (s : SourceSpec) (before mid after : ℕ) (last : Option (List ℕ)) (outcome : Outcome)
+    → before ≤ mid → AreSources held (take i ss) ws → slice_get ss i ≡ Some s → StopsFetch held s.name mid after last outcome
+    → StopsSources held ss before after last outcome
+fetch_stops held ss ws i s before mid after last (Unreadable name) earlier are there stops = (
+  reached_next held ss ws i s name are there stops.0,
+  subst (IsFault before after last) (sym stops.0) (fault_since before mid after last s.name earlier stops.1),
+)
+fetch_stops held ss ws i s before mid after last (TooLong name) earlier are there stops =
+    (reached_next held ss ws i s name are there stops.0, subst (IsLong held) (sym stops.0) stops.1)
+fetch_stops held ss ws i s before mid after last Memory earlier are there stops = tt
+fetch_stops held ss ws i s before mid after last outcome earlier are there stops = absurd stops
+
+-- the plan's file is the first of a command
+pub plan_stops : (held : Held) (command : Command) (file : List ℕ) (before after : ℕ) (last : Option (List ℕ)) (outcome : Outcome) → plan_file command ≡ Some file
+    → StopsPlan held file before after last outcome → StopsAccepting held command before after last outcome
+plan_stops held command file before after last (Unreadable name) is stops =
+    (inl (is ∙ ap Some (sym stops.0)), subst (IsFault before after last) (sym stops.0) stops.1)
+plan_stops held command file before after last (TooLong name) is stops = (inl (is ∙ ap Some (sym stops.0)), subst (IsLong held) (sym stops.0) stops.1)
+plan_stops held command file before after last (PlanRefused refusal) is stops = (file, is, stops)
+plan_stops held command file before after last Memory is stops = tt
+plan_stops held command file before after last outcome is stops = absurd stops
+
+-- the files of the sources come behind the plan
+pub sources_stop : (held : Held) (command : Command) (plan : Plan) (before mid after : ℕ) (last : Option (List ℕ)) (outcome : Outcome) → before ≤ mid
+    → IsPlanOf held command plan → StopsSources held plan.sources mid after last outcome → StopsAccepting held command before after last outcome
+sources_stop held command plan before mid after last (Unreadable name) earlier is stops =
+    (inr (plan, is, stops.0), fault_since before mid after last name earlier stops.1)
+sources_stop held command plan before mid after last (TooLong name) earlier is stops = (inr (plan, is, stops.0), stops.1)
+sources_stop held command plan before mid after last Memory earlier is stops = tt
+sources_stop held command plan before mid after last outcome earlier is stops = absurd stops

@@ -1,0 +1,83 @@
+-- What the files of a command say: the one cause of its answer, where no call of the outside fails.
+use Rattle.std.specs.Prelude.{◌≡◌, ◌+◌, ◌⊎◌, ℕ, List, [], ◌∷◌, Option, Some, None, Result, Ok, Err}
+use Rattle.std.specs.List.{AllByRecursion}
+use Rattle.std.specs.Str.{IsUtf8, IsValidUpTo}
+use Rattle.pd_sections.specs.Written.{Written}
+use Rattle.pd_plan.specs.declared.plan.Plan.{Plan}
+use Rattle.pd_plan.specs.declared.refusal.PlanRefusal.{PlanRefusal}
+use Rattle.pd_plan_json.specs.Reading.{Read}
+use Rattle.pd_plan_json.specs.Whole.{plan_at}
+use Rattle.pd_tree.specs.Program.{Program}
+use Rattle.pd_load.specs.declared.refusal.LoadRefusal.{LoadRefusal}
+use Rattle.pd_load.specs.declared.refusal.LoadCause.TheVariants.{NotUtf8}
+use Rattle.pd_load.specs.Tables.{IsText}
+use Rattle.pd_load.specs.Loading.{IsLoaded, IsRefused}
+use Rattle.pd_top.specs.declared.words.Command.{Command}
+use Rattle.pd_top.specs.declared.words.Command.TheVariants.{Trace, Run, Check}
+use Rattle.pd_top.specs.Plans.{trace_plan}
+use Rattle.pd_top.specs.Files.{Held, IsShort, IsLong, AreSources, IsReachedAmong}
+
+-- ---- the plan
+
+-- the file of the plan; `trace` has none
+abbrev pub plan_file : Command → Option (List ℕ)
+plan_file (Trace file) = None
+plan_file (Run file) = Some file
+plan_file (Check file) = Some file
+
+-- what the bytes of the plan's file are: a plan, or the first broken rule
+pub record IsPlanRead (held : Held) (file : List ℕ) (read : Read Plan) : Type 0 where
+  pub bytes : List ℕ
+  pub short : IsShort held file bytes
+  pub read_is : plan_at bytes ≡ read
+
+-- the plan that the command is about
+abbrev pub IsPlanOf : Held → Command → Plan → Type 0
+IsPlanOf held (Trace file) plan = plan ≡ trace_plan file
+IsPlanOf held (Run file) plan = IsPlanRead held file (Ok plan)
+IsPlanOf held (Check file) plan = IsPlanRead held file (Ok plan)
+
+-- ---- the files in their order: that of the plan, then the sources of the plan
+
+-- the command comes to read this file: all before it are short enough, and the bytes of the plan's file are a plan
+abbrev pub IsReached : Held → Command → List ℕ → Type 0
+IsReached held command file =
+    (plan_file command ≡ Some file)
+    ⊎ ((plan : Plan) × IsPlanOf held command plan × IsReachedAmong held plan.sources file)
+
+-- ---- the sources, all of which are read
+
+-- the source of this number isn't UTF-8; the place is the length of its longest front that is
+abbrev pub IsNotText : ℕ → Written → LoadRefusal → Type 0
+IsNotText number w refusal = (at : ℕ) × IsValidUpTo w.bytes at × (refusal ≡ record { source = number; cause = NotUtf8 at })
+
+-- the first such source, from this number on
+abbrev pub IsFirstNotText : ℕ → List Written → LoadRefusal → Type 0
+IsFirstNotText number [] refusal = ⊥
+IsFirstNotText number (w ∷ ws) refusal = IsNotText number w refusal ⊎ (IsUtf8 w.bytes × IsFirstNotText (number + 1) ws refusal)
+
+-- the first refusal: a source that isn't UTF-8, or what loading refuses
+abbrev pub IsFirstRefusal : Plan → List Written → LoadRefusal → Type 0
+IsFirstRefusal plan sources refusal =
+    IsFirstNotText 0 sources refusal ⊎ (AllByRecursion IsText sources × IsRefused plan sources refusal)
+
+-- ---- the cause
+
+pub data Cause : Type 0 where
+  too_long : List ℕ → Cause
+  plan_refused : PlanRefusal → Cause
+  source_refused : LoadRefusal → Cause
+  accepted : Plan → Program → Cause
+
+-- exactly one of these for each command and each content of the files, where those that the command comes to are held
+abbrev pub IsCause : Held → Command → Cause → Type 0
+IsCause held command (too_long file) = IsReached held command file × IsLong held file
+IsCause held command (plan_refused refusal) =
+    (file : List ℕ) × (plan_file command ≡ Some file) × IsPlanRead held file (Err refusal)
+IsCause held command (source_refused refusal) =
+    (plan : Plan) × (sources : List Written)
+    × IsPlanOf held command plan × AreSources held plan.sources sources × IsFirstRefusal plan sources refusal
+IsCause held command (accepted plan program) =
+    (sources : List Written)
+    × IsPlanOf held command plan × AreSources held plan.sources sources
+    × AllByRecursion IsText sources × IsLoaded plan sources program

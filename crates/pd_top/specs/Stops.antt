@@ -1,0 +1,68 @@
+-- What stops the steps of a command before it writes; want of memory may stop each.
+use Rattle.std.specs.Prelude.{◌≡◌, ℕ, List, Option, Ok, Err}
+use Rattle.pd_sections.specs.declared.Stop.{Stop}
+use Rattle.pd_sections.specs.declared.Stop.TheVariants as loading
+use Rattle.pd_sections.specs.Written.{Written}
+use Rattle.pd_plan.specs.declared.plan.SourceSpec.{SourceSpec}
+use Rattle.pd_plan.specs.declared.plan.Plan.{Plan}
+use Rattle.pd_load.specs.declared.refusal.LoadRefusal.{LoadRefusal}
+use Rattle.pd_top.specs.declared.words.Command.{Command}
+use Rattle.pd_top.specs.declared.outcome.Outcome.{Outcome}
+use Rattle.pd_top.specs.declared.outcome.Outcome.TheVariants.{Usage, Unreadable, TooLong, PlanRefused, SourceRefused, Memory}
+use Rattle.pd_top.specs.Words.{file_of, command_of}
+use Rattle.pd_top.specs.Files.{Held, IsFault, IsLong, IsReachedAmong}
+use Rattle.pd_top.specs.Causes.{IsPlanRead, IsReached, IsNotText, IsFirstNotText, IsFirstRefusal, IsCause, too_long, plan_refused, source_refused}
+
+-- ---- words
+
+abbrev pub StopsFile : List (List ℕ) → Outcome → Type 0
+StopsFile words (Usage fault) = file_of words ≡ Err fault
+StopsFile words Memory = (file : List ℕ) × (file_of words ≡ Ok file)
+StopsFile words _ = ⊥
+
+abbrev pub StopsWords : List (List ℕ) → Outcome → Type 0
+StopsWords words (Usage fault) = command_of words ≡ Err fault
+StopsWords words Memory = (command : Command) × (command_of words ≡ Ok command)
+StopsWords words _ = ⊥
+
+-- ---- files; the library had so many faults before, has so many after, and this is the last one's name
+
+abbrev pub StopsFetch : Held → List ℕ → ℕ → ℕ → Option (List ℕ) → Outcome → Type 0
+StopsFetch held file before after last (Unreadable name) = (name ≡ file) × IsFault before after last file
+StopsFetch held file before after last (TooLong name) = (name ≡ file) × IsLong held file
+StopsFetch held file before after last Memory = Unit {0}
+StopsFetch held file before after last _ = ⊥
+
+abbrev pub StopsSources : Held → List SourceSpec → ℕ → ℕ → Option (List ℕ) → Outcome → Type 0
+StopsSources held sources before after last (Unreadable name) = IsReachedAmong held sources name × IsFault before after last name
+StopsSources held sources before after last (TooLong name) = IsReachedAmong held sources name × IsLong held name
+StopsSources held sources before after last Memory = Unit {0}
+StopsSources held sources before after last _ = ⊥
+
+abbrev pub StopsPlan : Held → List ℕ → ℕ → ℕ → Option (List ℕ) → Outcome → Type 0
+StopsPlan held file before after last (PlanRefused refusal) = IsPlanRead held file (Err refusal)
+StopsPlan held file before after last outcome = StopsFetch held file before after last outcome
+
+-- ---- loading
+
+abbrev pub StopsSource : ℕ → Written → Stop LoadRefusal → Type 0
+StopsSource number source (loading.Refused refusal) = IsNotText number source refusal
+StopsSource number source loading.Memory = Unit {0}
+
+abbrev pub StopsTexts : List Written → Stop LoadRefusal → Type 0
+StopsTexts sources (loading.Refused refusal) = IsFirstNotText 0 sources refusal
+StopsTexts sources loading.Memory = Unit {0}
+
+abbrev pub StopsLoad : Plan → List Written → Stop LoadRefusal → Type 0
+StopsLoad plan sources (loading.Refused refusal) = IsFirstRefusal plan sources refusal
+StopsLoad plan sources loading.Memory = Unit {0}
+
+-- ---- plan and sources
+
+abbrev pub StopsAccepting : Held → Command → ℕ → ℕ → Option (List ℕ) → Outcome → Type 0
+StopsAccepting held command before after last (Unreadable name) = IsReached held command name × IsFault before after last name
+StopsAccepting held command before after last (TooLong name) = IsCause held command (too_long name)
+StopsAccepting held command before after last (PlanRefused refusal) = IsCause held command (plan_refused refusal)
+StopsAccepting held command before after last (SourceRefused refusal) = IsCause held command (source_refused refusal)
+StopsAccepting held command before after last Memory = Unit {0}
+StopsAccepting held command before after last _ = ⊥

@@ -1,0 +1,77 @@
+//! From a command to its plan and program.
+ghost use Rattle.std.specs.Prelude.{◌≡◌, ◌≤◌, ◌<◌, length, Ok, IfOk, IfErr};
+ghost use Rattle.pd_plan_json.specs.Served.{IsServed};
+ghost use Rattle.pd_top.specs.Causes.{IsPlanRead, IsPlanOf, IsCause, accepted};
+ghost use Rattle.pd_top.specs.Stops.{StopsPlan, StopsAccepting};
+
+use crate::files::{fetched, files_of};
+use crate::loading::program_of;
+use crate::outcome::Outcome;
+use crate::plans::trace_plan;
+use crate::words::Command;
+use pd_outside::Library;
+use pd_plan::Plan;
+use pd_plan_json::read_plan;
+use pd_sections::Stop;
+use pd_tree::Program;
+use pd_values::Stop as PlanStop;
+use std::alloc::Global;
+
+/// What a command is about: its plan, and the program of its sources.
+#[derive(Drop)]
+pub(crate) struct Accepted {
+    pub(crate) plan: Plan,
+    pub(crate) program: Program,
+}
+
+// The plan in the file of this name.
+fn plan_in<L: Library>(alloc: Global, name: &str, files: &mut L) -> Result<Plan, Outcome>
+    ensures plan { IfOk result (λ plan. IsPlanRead (L.held files.old) name.now (Ok plan)) }
+    ensures served { IfOk result IsServed }
+    ensures stopped { IfErr result (StopsPlan (L.held files.old) name.now (L.faults files.old) (L.faults files.new) (L.last_fault files.new)) }
+    ensures held { L.held files.new ≡ L.held files.old }
+    ensures count { L.faults files.old ≤ L.faults files.new }
+{
+    let bytes = fetched(alloc, name, files)?;
+    match read_plan(alloc, bytes.as_slice()) {
+        Ok(plan) => Ok(plan),
+        Err(PlanStop::Refused(refusal)) => Err(Outcome::PlanRefused(refusal)),
+        Err(PlanStop::Memory) => Err(Outcome::Memory),
+    }
+}
+
+// The plan of a command.
+fn plan_of<L: Library>(alloc: Global, command: &Command, files: &mut L) -> Result<Plan, Outcome>
+    ensures plan { IfOk result (IsPlanOf (L.held files.old) command.now) }
+    ensures served { IfOk result IsServed }
+    ensures stopped { IfErr result (StopsAccepting (L.held files.old) command.now (L.faults files.old) (L.faults files.new) (L.last_fault files.new)) }
+    ensures held { L.held files.new ≡ L.held files.old }
+    ensures count { L.faults files.old ≤ L.faults files.new }
+{
+    match command {
+        Command::Trace(file) => Ok(trace_plan(alloc, file.as_str())?),
+        Command::Run(file) | Command::Check(file) => plan_in(alloc, file.as_str(), files),
+    }
+}
+
+/// The plan and the program of a command.
+pub(crate) fn accept<L: Library>(
+    alloc: Global,
+    command: &Command,
+    files: &mut L,
+) -> Result<Accepted, Outcome>
+    ensures accepted { IfOk result (λ both. IsCause (L.held files.old) command.now (accepted both.plan both.program)) }
+    ensures served { IfOk result (λ both. IsServed both.plan) }
+    ensures entry { IfOk result (λ both. 0 < length both.program.entries) }
+    ensures stopped { IfErr result (StopsAccepting (L.held files.old) command.now (L.faults files.old) (L.faults files.new) (L.last_fault files.new)) }
+    ensures held { L.held files.new ≡ L.held files.old }
+    ensures count { L.faults files.old ≤ L.faults files.new }
+{
+    let plan = plan_of(alloc, command, files)?;
+    let read = files_of(alloc, plan.sources.as_slice(), files)?;
+    match program_of(alloc, &plan, read) {
+        Ok(program) => Ok(Accepted { plan, program }),
+        Err(Stop::Refused(refusal)) => Err(Outcome::SourceRefused(refusal)),
+        Err(Stop::Memory) => Err(Outcome::Memory),
+    }
+}
