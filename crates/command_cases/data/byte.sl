@@ -1,0 +1,1 @@
+function main() { x = "a\b"; }

@@ -1,0 +1,1 @@
+function main() { } /* to the end
