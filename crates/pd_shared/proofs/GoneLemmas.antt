@@ -1,6 +1,9 @@
 -- What a load of a node's words tells of its bindings.
-use Rattle.std.proofs.Common.{◌≡◌, ◌≢◌, ◌⊎◌, ℕ, zero, suc, ◌+◌, ◌*◌, ◌/◌, ◌%◌, ◌<◌, ◌≤◌, List, [], ◌∷◌, ◌++◌, length, length-set, length-append, slice_set, Bool, true, false, if◌then◌else◌, ◌==◌, ◌&&◌, ◌||◌, not, ltb, sym, refl, ap, ◌∙◌, subst, arith, inl, inr, ⊎_elim, eq-eqb, ne_eqb, get_or, get_or-set_other, append-nil}
+use Rattle.std.proofs.Common.{◌≡◌, ◌≢◌, ◌⊎◌, ℕ, zero, suc, ◌+◌, ◌*◌, ◌/◌, ◌%◌, ◌<◌, ◌≤◌, List, [], ◌∷◌, ◌++◌, length, length-set, length-append, slice_set, Bool, true, false, if◌then◌else◌, ◌==◌, ◌&&◌, ◌||◌, not, ltb, sym, refl, ap, ◌∙◌, subst, arith, inl, inr, ⊎_elim, eq-eqb, ne_eqb, get_or, get_or-set_other, append-nil, Ok, Err}
 use Rattle.std.specs.Prelude.{slice_index}
+use Rattle.std.specs.List.Sorted.{IsBinarySearchResult}
+use Rattle.std.specs.Ordering.{nat_cmp}
+use Rattle.std.proofs.lemmas.List.Sorted.{searched}
 use Rattle.std.proofs.lemmas.Grind.{get_or-set_at}
 use Rattle.std.proofs.lemmas.Bool.Decides.{nat_tests}
 use Rattle.std.specs.List.{list_any}
@@ -11,7 +14,7 @@ use Rattle.pd_board.specs.declared.answers.Known.TheVariants as knowns
 use Rattle.pd_board.specs.Answers.{known_after_load}
 use Rattle.pd_board.specs.Standing.{in_row}
 use Rattle.pd_core.specs.declared.view.View.{View}
-use Rattle.pd_core.specs.Layout.{Layout, bindings, row, width, Matches, row_at, binding_word}
+use Rattle.pd_core.specs.Layout.{Layout, Rising, bindings, row, width, Matches, row_at, binding_word}
 use Rattle.pd_core.specs.Words.{attached, disposed, bit_of, mark}
 use Rattle.pd_core.specs.Counts.{times, same, total, only_if}
 use Rattle.pd_core.specs.Views.{Known as Found_as, fresh, found_attached, found_disposed, known, gather, is_missing, is_found_attached}
@@ -113,6 +116,18 @@ place_row n (suc k) (x ∷ xs) h e = or_true (x == n) (list_any (λ m. m == n) x
 
 pub not_in_row : (n : ℕ) (xs : List ℕ) → ((k : ℕ) → k < length xs → slice_index xs k ≡ n → ⊥) → list_any (λ m. m == n) xs ≡ false
 not_in_row n xs h = ⊎_elim (λ (e : list_any (λ m. m == n) xs ≡ true). let r = row_place n xs e in absurd (h r.0 r.1 r.2)) (λ (e : list_any (λ m. m == n) xs ≡ false). e) (yes_or_no (list_any (λ m. m == n) xs))
+
+-- a binary search in a row whose nodes rise
+rises : (xs : List ℕ) → Rising xs → (i j : ℕ) → i ≤ j → j < length xs → slice_index xs i ≤ slice_index xs j
+rises xs r i j le lt = by_lt i j (λ (h : i < j). let here = r i j h lt in omega arith) (λ (h : j ≤ i). let e : i ≡ j = omega arith in subst (λ (k : ℕ). slice_index xs i ≤ slice_index xs k) e (omega arith))
+
+pub found_in : (xs : List ℕ) (n i : ℕ) → Rising xs → IsBinarySearchResult (λ y. nat_cmp y n) xs (Ok i) → list_any (λ m. m == n) xs ≡ true
+found_in xs n i rising ends = let at = searched xs n (Ok i) ends (rises xs rising) in place_row n i xs at.0 at.1
+
+pub absent_in : (xs : List ℕ) (n i : ℕ) → Rising xs → IsBinarySearchResult (λ y. nat_cmp y n) xs (Err i) → list_any (λ m. m == n) xs ≡ false
+absent_in xs n i rising ends =
+    let at = searched xs n (Err i) ends (rises xs rising) in
+    not_in_row n xs (λ k lt e. by_lt k i (λ (h : k < i). let here = at.1 k h in omega arith) (λ (h : i ≤ k). let here = at.2 k h lt in omega arith))
 
 module _ (p : Layout) (table : MatchTable) (same_rows : table.rows ≡ p.rows) where
   in_row_is : (b n : ℕ) → in_row table b n ≡ list_any (λ m. m == n) (row p b)

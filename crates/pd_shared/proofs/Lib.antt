@@ -8,3 +8,9 @@ pub mod MarkLemmas
 pub mod NumberLemmas
 pub mod SwitchLemmas
 pub mod TalkLemmas
+pub mod HeldLemmas
+pub mod MergeLemmas
+pub mod LeftLemmas
+pub mod AllLemmas
+pub mod CloseLemmas
+pub mod StepLemmas

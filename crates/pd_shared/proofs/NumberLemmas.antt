@@ -80,11 +80,11 @@ turned_is same_way true n c e = absurd (cc)
 turned_is true false n c e = absurd (cc)
 turned_is false false n c e = (refl, refl, cc)
 
-off_fits : (w : ℕ) → off w < 2
+pub off_fits : (w : ℕ) → off w < 2
 unfolding off
 off_fits w = bit_at-lt w 2
 
-turned_word : (t : Toggle) (c : ℕ) → toggle_of t.disables t.found ≡ toggles.At c → (did_turn t ≡ true) × (c ≡ sum_in t.found)
+pub turned_word : (t : Toggle) (c : ℕ) → toggle_of t.disables t.found ≡ toggles.At c → (did_turn t ≡ true) × (c ≡ sum_in t.found)
 turned_word t c e =
     let parts = turned_is (beq (off t.found == 1) t.disables) (disposed t.found == 1) (sum_in t.found) c e in
     (did_by t.disables t.found (not_flag (disposed t.found) (disposed_fits t.found) parts.0) parts.1, sym parts.2)
@@ -132,11 +132,11 @@ tail_counts : (b c : ℕ) (t : Toggle) (ts : List Toggle) → 0 < total (toggle_
 unfolding total
 tail_counts b c t ts q = omega arith
 
-toggles_are : (b c : ℕ) (d : Deeds) → toggles_at b c d ≡ total (toggle_at b c) d.toggles
+pub toggles_are : (b c : ℕ) (d : Deeds) → toggles_at b c d ≡ total (toggle_at b c) d.toggles
 unfolding toggles_at
 toggles_are b c d = refl
 
-toggles_in : (b n : ℕ) (ts : List Toggle) (rs : List ActResult) → map act_of ts ≡ filter_map toggle_by rs → ((c : ℕ) → 0 < total (toggle_at b c) ts → c ≤ n) → TogglesUpTo b n rs
+pub toggles_in : (b n : ℕ) (ts : List Toggle) (rs : List ActResult) → map act_of ts ≡ filter_map toggle_by rs → ((c : ℕ) → 0 < total (toggle_at b c) ts → c ≤ n) → TogglesUpTo b n rs
 toggles_in b n ts [] e h = All-nil (λ r. ForSome (toggle_count b r) (λ c. c ≤ n))
 toggles_in b n ts (acts.Attached k a ∷ rs) e h = All-cons (λ r. ForSome (toggle_count b r) (λ c. c ≤ n)) (acts.Attached k a) rs (λ c q. absurd (cc)) (toggles_in b n ts rs e h)
 toggles_in b n ts (acts.Disposed k a ∷ rs) e h = All-cons (λ r. ForSome (toggle_count b r) (λ c. c ≤ n)) (acts.Disposed k a) rs (λ c q. absurd (cc)) (toggles_in b n ts rs e h)

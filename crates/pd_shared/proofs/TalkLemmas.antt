@@ -58,9 +58,19 @@ share_less s n r t left = by_eq r s
     (λ (e : r ≡ s). ap (λ (b : Bool). answer_share r (answered s n t) + (if b then 1 else 0)) (eq-eqb r s e) ∙ (let some : 0 < answer_share r t = subst (λ (k : ℕ). 0 < answer_share k t) (sym e) left in omega (arith, spent_more s n r t, first_is-here r s n e)))
     (λ (ne : r ≢ s). ap (λ (b : Bool). answer_share r (answered s n t) + (if b then 1 else 0)) (ne_eqb r s ne) ∙ omega (arith, spent_more s n r t, first_is-else r s n ne))
 
-reads_answered : (p : Layout) (s n : ℕ) (t : Talk) (ended : Bool) (words : List Reads) (ends : Reads) → AreReads p t ended words ends → AreReads p (answered s n t) ended words ends
+reads_answered : (p : Layout) (s n : ℕ) (t : Talk) (ended : Bool) (words : List Reads) (ends : Reads) → 0 < answer_share s t → AreReads p t ended words ends → AreReads p (answered s n t) ended words ends
 unfolding readings end_readings
-reads_answered p s n t ended words ends r = record { ended_is = r.ended_is; sessions_are = r.sessions_are; loads = r.loads; last = r.last; end_loads = r.end_loads; last_end = r.last_end }
+reads_answered p s n t ended words ends left r = record {
+  ended_is = r.ended_is;
+  sessions_are = r.sessions_are;
+  within = λ k lt. by_eq k s
+      (λ (e : k ≡ s). let was = r.within k lt in let some : 0 < answer_share k t = subst (λ (i : ℕ). 0 < answer_share i t) (sym e) left in omega (arith, spent_more s n k t, first_is-here k s n e))
+      (λ (ne : k ≢ s). let was = r.within k lt in omega (arith, spent_more s n k t, first_is-else k s n ne));
+  loads = r.loads;
+  last = r.last;
+  end_loads = r.end_loads;
+  last_end = r.last_end;
+}
 
 -- ---- a read of a session's word
 
@@ -76,12 +86,17 @@ end_reading_asked : (s n x : ℕ) (t : Talk) → end_readings x (asked s n t) �
 unfolding end_readings
 end_reading_asked s n x t = refl
 
+spent_asked : (s n r : ℕ) (t : Talk) → spent r (asked s n t) ≡ spent r t
+unfolding spent
+spent_asked s n r t = refl
+
 reads_asked : (p : Layout) (s n : ℕ) (t : Talk) (ended : Bool) (words : List Reads) (ends now : Reads) → s < p.sessions → now ≡ record { loads = (reads_at words s).loads + 1; last = n } → AreReads p t ended words ends → AreReads p (asked s n t) ended (slice_set words s now) ends
 reads_asked p s n t ended words ends now lt is r =
     let within : s < length words = omega (arith, r.sessions_are) in
     record {
       ended_is = r.ended_is;
       sessions_are = length-set words s now ∙ r.sessions_are;
+      within = λ k h. let was = r.within k h in omega (arith, spent_asked s n k t);
       loads = λ k h. by_eq k s
           (λ (e : k ≡ s). let read : reads_at (slice_set words s now) k ≡ now = get_or-set_at words s k now unread e within in
           let old = r.loads k h in
@@ -114,18 +129,19 @@ read_fits p s n v lt f = subst (λ (k : ℕ). k < 2 ^ 32) f.3 (session_fits p f.
 -- ---- an end, and a read of the word of ended contexts
 
 reads_ended : (p : Layout) (t : Talk) (words : List Reads) (ends : Reads) → AreReads p t false words ends → AreReads p (ended_talk t) true words ends
-unfolding readings end_readings
-reads_ended p t words ends r = record { ended_is = refl; sessions_are = r.sessions_are; loads = r.loads; last = r.last; end_loads = r.end_loads; last_end = r.last_end }
+unfolding spent readings end_readings
+reads_ended p t words ends r = record { ended_is = refl; sessions_are = r.sessions_are; within = r.within; loads = r.loads; last = r.last; end_loads = r.end_loads; last_end = r.last_end }
 
 end_here : (n : ℕ) (t : Talk) → 0 < end_readings n (counted_ends n t)
 unfolding end_readings
 end_here n t = omega (arith, times_here n n t.end_reads refl)
 
 reads_counted : (p : Layout) (n : ℕ) (t : Talk) (ended : Bool) (words : List Reads) (ends now : Reads) → now ≡ record { loads = ends.loads + 1; last = n } → AreReads p t ended words ends → AreReads p (counted_ends n t) ended words now
-unfolding readings
+unfolding spent readings
 reads_counted p n t ended words ends now is r = record {
   ended_is = r.ended_is;
   sessions_are = r.sessions_are;
+  within = r.within;
   loads = r.loads;
   last = r.last;
   end_loads = let count = ap (λ (x : Reads). x.loads) is in omega (arith, length-append t.end_reads (n ∷ []), r.end_loads);
@@ -144,8 +160,8 @@ ends_fit p n v f = subst (λ (k : ℕ). k < 2 ^ 32) f.3 (end_fits p f.0.words f.
 
 -- ---- the seat after one of these steps
 
-pub tied_answered : (p : Layout) (s n word operand spare : ℕ) (v : View) (k : Book) → IsTied p v k → IsTied p (noted word operand n (spoke (answered s n v.talk) v)) (record k { entries = record k.entries { spare = spare } })
-tied_answered p s n word operand spare v k t = record { idle = t.idle; known_is = t.known_is; deeds = record { sights = t.deeds.sights; befores = t.deeds.befores; made = t.deeds.made; firsts = t.deeds.firsts; late = t.deeds.late; counts = t.deeds.counts; toggles = t.deeds.toggles }; reads = reads_answered p s n v.talk k.ended k.sessions k.ends t.reads; all_loads = t.all_loads; cleared = t.cleared; alone = t.alone; tried = t.tried; loads = t.loads }
+pub tied_answered : (p : Layout) (s n word operand spare : ℕ) (v : View) (k : Book) → 0 < answer_share s v.talk → IsTied p v k → IsTied p (noted word operand n (spoke (answered s n v.talk) v)) (record k { entries = record k.entries { spare = spare } })
+tied_answered p s n word operand spare v k left t = record { idle = t.idle; known_is = t.known_is; deeds = record { sights = t.deeds.sights; befores = t.deeds.befores; made = t.deeds.made; firsts = t.deeds.firsts; late = t.deeds.late; counts = t.deeds.counts; toggles = t.deeds.toggles }; reads = reads_answered p s n v.talk k.ended k.sessions k.ends left t.reads; all_loads = t.all_loads; cleared = t.cleared; alone = t.alone; tried = t.tried; loads = t.loads }
 
 pub tied_asked : (p : Layout) (s n word operand : ℕ) (v : View) (k : Book) (now : Reads) → s < p.sessions → now ≡ record { loads = (reads_at k.sessions s).loads + 1; last = n } → IsTied p v k → IsTied p (noted word operand n (spoke (asked s n v.talk) v)) (record k { sessions = slice_set k.sessions s now })
 tied_asked p s n word operand v k now lt is t = record { idle = t.idle; known_is = t.known_is; deeds = t.deeds; reads = reads_asked p s n v.talk k.ended k.sessions k.ends now lt is t.reads; all_loads = t.all_loads; cleared = t.cleared; alone = t.alone; tried = t.tried; loads = t.loads }

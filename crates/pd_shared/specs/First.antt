@@ -1,20 +1,21 @@
--- The first token of a board: nothing is known or kept.
-use Rattle.std.specs.Prelude.{◌≡◌, ℕ, false, None, replicate}
-use Rattle.pd_board.specs.declared.answers.Known.TheVariants as knowns
+-- A token that did nothing: nothing is kept.
+use Rattle.std.specs.Prelude.{◌≡◌, ℕ, List, false, None}
 use Rattle.pd_board.specs.Chain.{has}
+use Rattle.pd_shared.specs.declared.token.Reads.{Reads}
 use Rattle.pd_shared.specs.declared.token.Token.{Token}
 use Rattle.pd_shared.specs.Journal.{empty}
 use Rattle.pd_shared.specs.Book.{unread}
 
-pub record IsFirst (count node_count session_count : ℕ) (t : Token) : Type 0 where
+-- its counts, its loads of nodes and its reads of sessions are these lists
+pub record IsFirst (no_counts no_loads : List ℕ) (no_reads : List Reads) (t : Token) : Type 0 where
   pub journal : t.journal ≡ empty
-  pub known : t.known.items ≡ replicate count knowns.Fresh
-  pub loads : t.loads.items ≡ replicate node_count 0
+  pub counts : t.counts.items ≡ no_counts
+  pub loads : t.loads.items ≡ no_loads
   pub all_loads : t.all_loads ≡ 0
   pub last_node : t.last_node ≡ None
   pub held : (b : ℕ) → has t.held b ≡ false
   pub due : (b : ℕ) → has t.due b ≡ false
   pub cleared : t.cleared ≡ 0
   pub ended : t.ended ≡ false
-  pub sessions : t.sessions.items ≡ replicate session_count unread
+  pub sessions : t.sessions.items ≡ no_reads
   pub ends : t.ends ≡ unread

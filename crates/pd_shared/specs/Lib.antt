@@ -3,5 +3,10 @@ pub mod Book
 pub mod Tied
 pub mod Sitting
 pub mod Took
+pub mod Steps
 pub mod Loading
 pub mod First
+pub mod Held
+pub mod Merged
+pub mod Left
+pub mod Closed

@@ -9,6 +9,7 @@ use Rattle.pd_core.specs.Talks.{answer_share}
 use Rattle.pd_shared.specs.declared.token.Token.{Token}
 use Rattle.pd_shared.specs.Book.{book_of, known_at, reads_at}
 use Rattle.pd_shared.specs.Tied.{is_alone, IsTied}
+use Rattle.pd_shared.specs.Held.{IsHeld}
 
 -- the core, the rows of all bindings, and what the seat has
 pub record Sitting : Type 0 where
@@ -52,4 +53,4 @@ standing_of s = record {
 
 -- the token is one of the board with this core: its pass is, and what it keeps is what its pass did
 abbrev pub IsOf : Hub → Token → Type 0
-IsOf hub token = (token.pass.id ≡ hub.id) × IsTied hub.layout token.pass.view (book_of token)
+IsOf hub token = (token.pass.id ≡ hub.id) × IsTied hub.layout token.pass.view (book_of token) × IsHeld hub.layout token.pass.view token.seats token.counts.items

@@ -26,7 +26,7 @@ use Rattle.pd_core.specs.declared.view.Toggle.{Toggle as Turned}
 use Rattle.pd_core.specs.Layout.{Layout, bindings}
 use Rattle.pd_core.specs.Words.{attached, disposed, off, sum_in}
 use Rattle.pd_core.specs.Counts.{total, first_is}
-use Rattle.pd_core.specs.Talks.{readings, end_readings}
+use Rattle.pd_core.specs.Talks.{spent, readings, end_readings}
 use Rattle.pd_core.specs.Views.{Known as Found, fresh, found_attached, found_disposed, known}
 use Rattle.pd_shared.specs.Journal.{Entries}
 use Rattle.pd_shared.specs.declared.token.Reads.{Reads}
@@ -134,6 +134,8 @@ pub record AreDeeds (d : Deeds) (e : Entries) : Type 0 where
 pub record AreReads (p : Layout) (t : Talk) (ended : Bool) (sessions : List Reads) (ends : Reads) : Type 0 where
   pub ended_is : t.ended ≡ ended
   pub sessions_are : length sessions ≡ p.sessions
+  -- it counted at most as many answers as it may
+  pub within : (s : ℕ) → s < p.sessions → spent s t ≤ t.granted
   pub loads : (s : ℕ) → s < p.sessions → total (first_is s) t.reads ≡ (reads_at sessions s).loads
   pub last : (s : ℕ) → s < p.sessions → 0 < (reads_at sessions s).last → 0 < readings s (reads_at sessions s).last t
   pub end_loads : length t.end_reads ≡ ends.loads

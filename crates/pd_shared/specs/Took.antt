@@ -1,5 +1,5 @@
 -- The steps that a call took, as its view tells.
-use Rattle.std.specs.Prelude.{◌≡◌, ℕ, ◌+◌, ◌/◌, ◌%◌, List, ◌==◌, Bool, true, false, if◌then◌else◌}
+use Rattle.std.specs.Prelude.{◌≡◌, ℕ, ◌/◌, ◌%◌, List, ◌==◌, Bool, true, false, if◌then◌else◌}
 use Rattle.pd_core.specs.declared.view.View.{View}
 use Rattle.pd_plan.specs.declared.table.MatchTable.{MatchTable}
 use Rattle.pd_board.specs.Answers.{known_after_load}
@@ -7,7 +7,7 @@ use Rattle.pd_board.specs.Standing.{in_row}
 use Rattle.pd_shared.specs.Book.{known_at}
 use Rattle.pd_core.specs.Layout.{Layout}
 use Rattle.pd_core.specs.Words.{live, off, disposed, sum_in, bit_of}
-use Rattle.pd_core.specs.Views.{known, fresh, found_attached, past_in, half_in}
+use Rattle.pd_core.specs.Views.{known, fresh, found_attached}
 use Rattle.pd_core.specs.Kinds.{Kind, load_binding, draw, after, Found}
 use Rattle.pd_board.specs.declared.answers.Known.{Known}
 use Rattle.pd_board.specs.declared.answers.Known.TheVariants as knowns
@@ -39,13 +39,6 @@ pub data DrawSteps (p : Layout) (event b : ℕ) (v next : View) (drawn : Drawn) 
   drew : (w : ℕ) → known v b ≡ found_attached → Took p (draw event b) v w next → drawn ≡ drawn_by w → later ≡ known_drawn w → DrawSteps p event b v next drawn later
   looked : (w : ℕ) → known v b ≡ fresh → Took p (load_binding event b) v w next → live w ≡ false → drawn ≡ drawns.Off → later ≡ known_looked w → DrawSteps p event b v next drawn later
   both : (u w : ℕ) (between : View) → known v b ≡ fresh → Took p (load_binding event b) v u between → live u ≡ true → Took p (draw event b) between w next → drawn ≡ drawn_by w → later ≡ known_drawn w → DrawSteps p event b v next drawn later
-
--- the view has come past so many nodes of the row of b, and is else the same, but for its steps
-pub record HasMarked (b k : ℕ) (v next : View) : Type 0 where
-  pub past : past_in next.attaching b ≡ k
-  pub whole : half_in next.attaching b ≡ false
-  pub rest : next ≡ record v { attaching = next.attaching; steps = next.steps; last = next.last }
-  pub steps : next.steps ≡ v.steps + (k + k)
 
 -- what is known after a load of the node's row word r: an attached one of its bindings that matches and lacks its bit is disposed
 abbrev pub IsRowKnown : MatchTable → ℕ → ℕ → ℕ → List Known → List Known → Type 0

@@ -64,6 +64,27 @@ impl Journal {
         self.sights.as_slice()
     }
 
+    /// For each sight the number of loads of nodes before it.
+    pub(crate) fn sight_loads(&self) -> &[u32]
+        ensures { result.now ≡ self.now.sight_loads }
+    {
+        self.sight_loads.as_slice()
+    }
+
+    /// The passes in order.
+    pub(crate) fn passes(&self) -> &[Passed]
+        ensures { result.now ≡ self.now.passes }
+    {
+        self.passes.as_slice()
+    }
+
+    /// The answers of acts in order.
+    pub(crate) fn replies(&self) -> &[ActResult]
+        ensures { result.now ≡ self.now.replies }
+    {
+        self.replies.as_slice()
+    }
+
     /// For how many further entries there is room.
     pub(crate) fn spare(&self) -> u32
         ensures { result ≡ self.now.spare }

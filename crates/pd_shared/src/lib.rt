@@ -1,13 +1,22 @@
 //! The shared words as a board: many threads step on them, each with a seat of its own.
 #![tactic(auto)]
 
+mod close;
 mod journal;
+mod laws;
+mod merge;
 mod replies;
 mod seat;
 mod shared;
+mod sights;
 mod steps;
+#[cfg(test)]
+mod tests;
 mod token;
 
+pub use laws::steps_are_counted;
+pub use pd_board::{BindingTally, State};
 pub use seat::Seat;
 pub use shared::SharedBoard;
+pub use sights::Sights;
 pub use token::Token;

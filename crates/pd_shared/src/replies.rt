@@ -1,6 +1,7 @@
 //! What a word that an act found says of it.
-ghost use Rattle.std.specs.Prelude.{◌≡◌};
+ghost use Rattle.std.specs.Prelude.{◌≡◌, ◌<◌, vec_len};
 ghost use Rattle.pd_shared.specs.Tied.{attach_of, dispose_of, toggle_of, known_set, known_switched};
+ghost use Rattle.pd_shared.specs.Held.{counted_by};
 
 use pd_board::{Attach, Dispose, Known, Toggle};
 use pd_core::word::{is_attached, is_disposed, is_off, sum_of};
@@ -39,6 +40,16 @@ pub(crate) fn dispose_answer(word: u64) -> Dispose
         Dispose::Disposed {
             count: sum_of(word),
         }
+    }
+}
+
+/// Puts down the count that the answer of a dispose of the binding has.
+pub(crate) fn put_count(counts: &mut Vec<u64>, b: u32, answer: Dispose)
+    requires { b < vec_len counts.old }
+    ensures { counts.new.items ≡ counted_by b answer counts.old.items }
+{
+    if let Dispose::Disposed { count } = answer {
+        counts[b as usize] = count;
     }
 }
 

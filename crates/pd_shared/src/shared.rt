@@ -1,17 +1,19 @@
 //! The board that seats share.
-ghost use Rattle.std.specs.Prelude.{◌≡◌, ◌<◌, ◌==◌, map, IfOk};
+ghost use Rattle.std.specs.Prelude.{◌≡◌, ◌<◌, ◌==◌, map, replicate, IfOk};
 ghost use Rattle.std.specs.List.{list_any};
+ghost use Rattle.pd_board.specs.declared.answers.Known.{Known};
 ghost use Rattle.pd_core.specs.Views.{first_view};
-ghost use Rattle.pd_shared.specs.First.{IsFirst};
-ghost use Rattle.pd_core.specs.Layout.{IsSound, bindings, width};
+ghost use Rattle.pd_core.specs.Layout.{IsSound, Rising, bindings, width};
 
-use crate::journal::Journal;
-use crate::token::{Reads, Token};
-use pd_board::{Chain, Known};
-use pd_core::hub::{Core, Pass};
+use crate::token::{Blank, Token};
+use pd_board::Known;
+use pd_core::hub::Core;
 use pd_plan::MatchTable;
 use pd_values::{Items, NodeId};
 use std::alloc::{AllocError, Global};
+
+/// All shares of the seats, which the first token has.
+pub(crate) const ALL_SEATS: u64 = 1 << 32;
 
 /// The shared words, and the rows of the bindings. It takes no lock, and no call on it waits.
 #[derive(Drop)]
@@ -38,22 +40,22 @@ impl SharedBoard {
     }
 }
 
-/// Whether the node stands in the row.
+/// Whether the node stands in the row, whose nodes rise.
 fn has_node(row: &[NodeId], n: u32) -> bool
+    requires { Rising row.now }
     ensures { result ≡ list_any (λ m. m == n) row.now }
 {
-    for m in row {
-        if m.0 == n {
-            return true;
-        }
+    match row.binary_search_by_key(&n, |m| m.0) {
+        Ok(_) => true,
+        Err(_) => false,
     }
-    false
 }
 
 impl SharedBoard {
-    ghost use Rattle.pd_shared.specs.Sitting.{IsOf};
+    ghost use Rattle.pd_board.specs.Standing.{IsNew};
+    ghost use Rattle.pd_shared.specs.Sitting.{IsOf, standing_of};
 
-    /// A board with all words 0, and the first token, which has all shares. Condition: there are at most 4,096 rows,
+    /// A board with all words 0, and the first token, which has all shares and did nothing. Condition: there are at most 4,096 rows,
     /// each rises, and its nodes are below `nodes`. Answers `AllocError` where memory is wanting.
     pub fn new(
         alloc: Global,
@@ -67,13 +69,16 @@ impl SharedBoard {
         ensures layout { IfOk result (λ r. r.0.core.layout ≡ record { nodes = nodes; rows = matches.now.rows; sessions = sessions; contexts = contexts }) }
         ensures of { IfOk result (λ r. IsOf r.0.core r.1) }
         ensures first { IfOk result (λ r. r.1.pass.view ≡ first_view) }
+        ensures new { IfOk result (λ r. IsNew matches.now nodes sessions contexts (standing_of (record { hub = r.0.core; table = r.0.table; token = r.1 }))) }
     {
         let table = copy_of(alloc, matches)?;
         let given = matches.rows.as_slice();
         let rows = numbers_of(alloc, given)?;
         let count = given.len();
         let (core, pass) = Core::new(alloc, rows, nodes, sessions, contexts)?;
-        let token = token_of(alloc, pass, count, nodes, sessions)?;
+        let known = fresh(alloc, count)?;
+        let blank = Blank::new(alloc, count, nodes as usize, sessions as usize)?;
+        let token = blank.token(alloc, pass, ALL_SEATS, known);
         let row_words = (count as u32 + 63) / 64;
         Ok((
             SharedBoard {
@@ -113,34 +118,11 @@ fn numbers_of(alloc: Global, rows: &[Items<NodeId>]) -> Result<Vec<Vec<u32>>, Al
     Ok(all)
 }
 
-/// The first token of a board.
-fn token_of(
-    alloc: Global,
-    pass: Pass,
-    count: usize,
-    nodes: u32,
-    sessions: u32,
-) -> Result<Token, AllocError>
-    ensures { IfOk result (λ t. (t.pass ≡ pass) × IsFirst count nodes sessions t) }
+/// What a first token knows of so many bindings.
+fn fresh(alloc: Global, count: usize) -> Result<Vec<Known>, AllocError>
+    ensures { IfOk result (λ v. v.items ≡ replicate count Known.Fresh) }
 {
     let mut known = Vec::new(alloc);
     known.resize(count, Known::Fresh)?;
-    let mut loads = Vec::new(alloc);
-    loads.resize(nodes as usize, 0)?;
-    let mut reads = Vec::new(alloc);
-    reads.resize(sessions as usize, Reads::new())?;
-    Ok(Token {
-        pass,
-        journal: Journal::new(alloc),
-        known,
-        loads,
-        all_loads: 0,
-        last_node: None,
-        held: Chain::new(),
-        due: Chain::new(),
-        cleared: 0,
-        ended: false,
-        sessions: reads,
-        ends: Reads::new(),
-    })
+    Ok(known)
 }

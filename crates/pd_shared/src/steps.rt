@@ -8,7 +8,10 @@ ghost use Rattle.pd_core.specs.Views.{known, past_in, half_in, HasRow, with_row}
 ghost use Rattle.pd_core.specs.Words.{bit_of};
 ghost use Rattle.pd_shared.specs.Book.{book_of, known_at};
 ghost use Rattle.pd_shared.specs.Tied.{IsTied, told};
-ghost use Rattle.pd_shared.specs.Took.{DrawSteps, HasMarked, IsRowKnown};
+ghost use Rattle.pd_shared.specs.Took.{Took, DrawSteps, IsRowKnown};
+ghost use Rattle.pd_shared.specs.Steps.{HasMarked, ChainSteps};
+ghost use Rattle.pd_shared.specs.Loading.{bit_loaded};
+ghost use Rattle.pd_core.specs.Kinds.{load_row};
 
 use crate::shared::SharedBoard;
 use crate::token::Token;
@@ -72,7 +75,7 @@ pub(crate) fn mark_row(core: &Core, pass: &mut Pass, b: u32, nodes: &[NodeId])
     requires sound { IsSound core.now.layout }
     requires idle { (past_in pass.old.view.attaching b ≡ 0) × (half_in pass.old.view.attaching b ≡ false) }
     ensures id { pass.new.id ≡ pass.old.id }
-    ensures marked { HasMarked b (length nodes.now) pass.old.view pass.new.view }
+    ensures marked { HasMarked core.now.layout b (length (row core.now.layout b)) pass.old.view pass.new.view }
 {
     for n in nodes {
         core.set_bit(pass, n.0, b);
@@ -119,7 +122,7 @@ fn load_part(board: &SharedBoard, token: &mut Token, n: u32, r: u32) -> u64
     ensures matching { (b : ℕ) → b / 64 ≡ r → (bit_of result (b % 64) == 1) ≡ true → in_row board.now.table b n ≡ true }
     ensures loaded { token.new.pass.view.loaded ≡ with_row r result token.old.pass.view.loaded }
     ensures view { token.new.pass.view ≡ record token.old.pass.view { loaded = token.new.pass.view.loaded; found_disposed = token.new.pass.view.found_disposed; steps = token.new.pass.view.steps; last = token.new.pass.view.last } }
-    ensures steps { token.new.pass.view.steps ≡ token.old.pass.view.steps + 1 }
+    ensures step { Took board.now.core.layout (load_row n r) token.old.pass.view result token.new.pass.view }
     ensures rest { token.new ≡ record token.old { pass = token.new.pass; known = token.new.known } }
 {
     let word = board.core.load_row(&mut token.pass, n, r);
@@ -136,9 +139,11 @@ pub(crate) fn load_chain(board: &SharedBoard, token: &mut Token, n: u32) -> Chai
     ensures id { token.new.pass.id ≡ token.old.pass.id }
     ensures tied { IsTied board.now.core.layout token.new.pass.view (book_of token.new) }
     ensures matching { (b : ℕ) → has result b ≡ true → in_row board.now.table b n ≡ true }
+    ensures bits { (b : ℕ) → has result b ≡ bit_loaded token.new.pass.view.loaded b }
     ensures known { (b : ℕ) → known_at token.new.known.items b ≡ known_after_load (in_row board.now.table b n) (has result b) (known_at token.old.known.items b) }
     ensures view { token.new.pass.view ≡ record token.old.pass.view { loads = token.new.pass.view.loads; loaded = token.new.pass.view.loaded; found_disposed = token.new.pass.view.found_disposed; steps = token.new.pass.view.steps; last = token.new.pass.view.last } }
     ensures all_loads { token.new.all_loads ≡ token.old.all_loads + 1 }
+    ensures steps { (rows : ℕ) × ChainSteps board.now.core.layout n rows token.old.pass.view token.new.pass.view }
     ensures rest { token.new ≡ record token.old { pass = token.new.pass; known = token.new.known; all_loads = token.new.all_loads } }
 {
     let mut chain = Chain::new();

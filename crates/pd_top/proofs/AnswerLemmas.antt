@@ -7,14 +7,15 @@ use Rattle.pd_report.specs.declared.report.Report.{Report}
 use Rattle.pd_top.specs.declared.words.Command.{Command}
 use Rattle.pd_top.specs.declared.words.Command.TheVariants.{Trace, Run, Check}
 use Rattle.pd_top.specs.declared.words.WordFault.{WordFault}
+use Rattle.pd_top.specs.declared.words.WordFault.{WordFault}
 use Rattle.pd_top.specs.declared.outcome.Unwritten.TheVariants as unwritten
 use Rattle.pd_top.specs.declared.outcome.Outcome.{Outcome}
 use Rattle.pd_top.specs.declared.outcome.Outcome.TheVariants.{Ran, Checked, Usage, Unreadable, TooLong, PlanRefused, SourceRefused, SinkFailed, Memory}
-use Rattle.pd_top.specs.Words.{command_of}
+use Rattle.pd_top.specs.Words.{file_of, on_file, command_named, command_of}
 use Rattle.pd_top.specs.Files.{Held}
 use Rattle.pd_top.specs.Causes.{Cause, too_long, plan_refused, source_refused, accepted, IsCause}
 use Rattle.pd_top.specs.Answers.{Reading, Writing, IsTextOf, IsWhole, IsDueTo, IsReason, Tells, IsAnswer, IsDecided, is_ran}
-use Rattle.pd_top.specs.Stops.{StopsWords, StopsAccepting}
+use Rattle.pd_top.specs.Stops.{StopsFile, StopsCommand, StopsWords, StopsAccepting}
 use Rattle.pd_top.proofs.CauseLemmas.{Agrees, one_cause}
 
 -- ---- why nothing is written
@@ -23,6 +24,13 @@ pub words_reason : (reading : Reading) (outcome : Outcome) → StopsWords readin
 words_reason reading (Usage fault) stops = stops
 words_reason reading Memory stops = tt
 words_reason reading outcome stops = absurd stops
+
+-- a command without a file
+pub named_stop : (words : List (List ℕ)) (make : List ℕ → Command) (asked : Result Command WordFault) (outcome : Outcome) → asked ≡ on_file make (file_of words)
+    → StopsFile words outcome → StopsCommand asked outcome
+named_stop words make asked (Usage fault) is stops = is ∙ ap (on_file make) stops
+named_stop words make asked Memory is stops = (make stops.0, is ∙ ap (on_file make) stops.1)
+named_stop words make asked outcome is stops = absurd stops
 
 pub accepting_reason : (reading : Reading) (command : Command) (outcome : Outcome) → command_of reading.words ≡ Ok command
     → StopsAccepting reading.held command reading.before reading.after reading.last outcome → IsReason reading outcome

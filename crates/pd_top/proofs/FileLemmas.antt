@@ -1,5 +1,5 @@
 -- The bytes that were fetched, and the files of the sources so far.
-use Rattle.std.proofs.Common.{◌≡◌, ◌<◌, ◌≤◌, ◌+◌, ◌∙◌, ℕ, suc, zero, List, [], ◌∷◌, ◌++◌, length, take, drop, refl, ap, sym, subst, arith, inl, inr, Option, None, Some, slice_get}
+use Rattle.std.proofs.Common.{◌≡◌, ◌<◌, ◌≤◌, ◌+◌, ◌∙◌, ℕ, suc, zero, List, [], ◌∷◌, ◌++◌, length, take, drop, refl, ap, sym, subst, arith, inl, inr, Option, None, Some, get_or}
 use Rattle.std.specs.Prelude.{IfSome, unwrap_or}
 use Rattle.std.specs.Option.{option_map}
 use Rattle.std.proofs.lemmas.List.{take_all, length-take}
@@ -46,22 +46,29 @@ long_of (Some f) file bytes e long = long_file f file bytes (f file) refl e long
 -- ---- the sources so far
 
 -- one more source
+sources_next : (held : Held) (ss : List SourceSpec) (ws : List Written) (i : ℕ) (s : SourceSpec) (w : Written) → AreSources held (take i ss) ws
+    → i < length ss → s ≡ get_or ss i s → w.name ≡ s.name → IsShort held s.name w.bytes → AreSources held (take (suc i) ss) (ws ++ w ∷ [])
+sources_next held [] ws i s w are within there name short = absurd (omega (arith, within))
+sources_next held (x ∷ ss) [] zero s w are within there name short =
+    (subst (λ (y : SourceSpec). w.name ≡ y.name) there name, subst (λ (y : SourceSpec). IsShort held y.name w.bytes) there short, tt)
+sources_next held (x ∷ ss) (v ∷ ws) zero s w are within there name short = absurd are
+sources_next held (x ∷ ss) [] (suc i) s w are within there name short = absurd are
+sources_next held (x ∷ ss) (v ∷ ws) (suc i) s w are within there name short =
+    (are.0, are.1, sources_next held ss ws i s w are.2 (omega (arith, within)) there name short)
+
 pub sources_more : (held : Held) (ss : List SourceSpec) (ws : List Written) (i : ℕ) (s : SourceSpec) (w : Written) → AreSources held (take i ss) ws
-    → slice_get ss i ≡ Some s → w.name ≡ s.name → IsShort held s.name w.bytes → AreSources held (take (suc i) ss) (ws ++ w ∷ [])
-sources_more held [] ws i s w are there name short = cc
-sources_more held (x ∷ ss) [] zero s w are there name short =
-    let same : x ≡ s = cc in (subst (λ (y : SourceSpec). w.name ≡ y.name) (sym same) name, subst (λ (y : SourceSpec). IsShort held y.name w.bytes) (sym same) short, tt)
-sources_more held (x ∷ ss) (v ∷ ws) zero s w are there name short = absurd are
-sources_more held (x ∷ ss) [] (suc i) s w are there name short = absurd are
-sources_more held (x ∷ ss) (v ∷ ws) (suc i) s w are there name short = (are.0, are.1, sources_more held ss ws i s w are.2 there name short)
+    → i < length ss → s ≡ get_or ss i s → w.name ≡ s.name → IsShort held s.name w.bytes → AreSources held (take (i + 1) ss) (ws ++ w ∷ [])
+sources_more held ss ws i s w are within there name short =
+    let next : suc i ≡ i + 1 = omega arith in subst (λ n. AreSources held (take n ss) (ws ++ w ∷ [])) next (sources_next held ss ws i s w are within there name short)
 
 -- the source behind those that are read is reached
 pub reached_next : (held : Held) (ss : List SourceSpec) (ws : List Written) (i : ℕ) (s : SourceSpec) (file : List ℕ) → AreSources held (take i ss) ws
-    → slice_get ss i ≡ Some s → file ≡ s.name → IsReachedAmong held ss file
-reached_next held [] ws i s file are there is = cc
-reached_next held (x ∷ ss) ws zero s file are there is = let same : x ≡ s = cc in inl (ap (λ (y : SourceSpec). y.name) same ∙ sym is)
-reached_next held (x ∷ ss) [] (suc i) s file are there is = absurd are
-reached_next held (x ∷ ss) (v ∷ ws) (suc i) s file are there is = inr (v.bytes, are.1, reached_next held ss ws i s file are.2 there is)
+    → i < length ss → s ≡ get_or ss i s → file ≡ s.name → IsReachedAmong held ss file
+reached_next held [] ws i s file are within there is = absurd (omega (arith, within))
+reached_next held (x ∷ ss) ws zero s file are within there is = inl (ap (λ (y : SourceSpec). y.name) (sym there) ∙ sym is)
+reached_next held (x ∷ ss) [] (suc i) s file are within there is = absurd are
+reached_next held (x ∷ ss) (v ∷ ws) (suc i) s file are within there is =
+    inr (v.bytes, are.1, reached_next held ss ws i s file are.2 (omega (arith, within)) there is)
 
 pub sources_counted : (held : Held) (ss : List SourceSpec) (ws : List Written) → AreSources held ss ws → length ws ≡ length ss
 sources_counted held [] [] are = refl

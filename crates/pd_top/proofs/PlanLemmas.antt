@@ -7,7 +7,6 @@ use Rattle.pd_plan.specs.declared.plan.Script.{Script}
 use Rattle.pd_plan.specs.declared.plan.Plan.{Plan}
 use Rattle.pd_plan.specs.Sound.{IsFrom, ListFits, IsSound}
 use Rattle.pd_plan_json.specs.Served.{Observes, OnlyAttaches, IsServed}
-use Rattle.pd_filter.specs.Matching.{is_empty}
 use Rattle.pd_report.specs.Run.{is_observer, only_attaches, IsObserving}
 use Rattle.pd_top.specs.Plans.{trace_plan}
 

@@ -1,15 +1,21 @@
 -- Why a command has no plan and sources, from what stops its steps.
-use Rattle.std.proofs.Common.{◌≡◌, ◌<◌, ◌≤◌, ◌∙◌, ℕ, List, take, slice_get, refl, ap, sym, subst, arith, inl, inr, Option, Some, Ok, Err}
+use Rattle.std.proofs.Common.{◌≡◌, ◌+◌, ◌<◌, ◌≤◌, ◌∙◌, ℕ, List, take, length, get_or, refl, ap, sym, subst, arith, inl, inr, Option, Some, Ok, Err}
+use Rattle.std.specs.List.{AllByRecursion}
+use Rattle.pd_sections.specs.declared.Stop.{Stop}
+use Rattle.pd_sections.specs.declared.Stop.TheVariants as loading
 use Rattle.pd_sections.specs.Written.{Written}
 use Rattle.pd_plan.specs.declared.plan.SourceSpec.{SourceSpec}
 use Rattle.pd_plan.specs.declared.plan.Plan.{Plan}
+use Rattle.pd_load.specs.declared.refusal.LoadRefusal.{LoadRefusal}
+use Rattle.pd_load.specs.Tables.{IsText}
 use Rattle.pd_top.specs.declared.words.Command.{Command}
 use Rattle.pd_top.specs.declared.outcome.Outcome.{Outcome}
 use Rattle.pd_top.specs.declared.outcome.Outcome.TheVariants.{Unreadable, TooLong, PlanRefused, Memory}
 use Rattle.pd_top.specs.Files.{Held, IsFault, IsLong, AreSources}
-use Rattle.pd_top.specs.Causes.{plan_file, IsPlanOf}
-use Rattle.pd_top.specs.Stops.{StopsFetch, StopsPlan, StopsSources, StopsAccepting}
+use Rattle.pd_top.specs.Causes.{plan_file, IsPlanOf, IsNotText}
+use Rattle.pd_top.specs.Stops.{StopsFetch, StopsPlan, StopsSources, StopsSource, StopsTexts, StopsAccepting}
 use Rattle.pd_top.proofs.FileLemmas.{reached_next}
+use Rattle.pd_top.proofs.SourceLemmas.{not_text_at}
 
 -- a later fault is a fault of the whole call
 fault_since : (before mid after : ℕ) (last : Option (List ℕ)) (file : List ℕ) → before ≤ mid → IsFault mid after last file → IsFault before after last file
@@ -17,16 +23,16 @@ fault_since before mid after last file earlier fault = record { risen = omega (a
 
 -- a source's file that isn't read, behind those that are
 pub fetch_stops : (held : Held) (ss : List SourceSpec) (ws : List Written) (i : ℕ) (s : SourceSpec) (before mid after : ℕ) (last : Option (List ℕ)) (outcome : Outcome)
-    → before ≤ mid → AreSources held (take i ss) ws → slice_get ss i ≡ Some s → StopsFetch held s.name mid after last outcome
+    → before ≤ mid → AreSources held (take i ss) ws → i < length ss → s ≡ get_or ss i s → StopsFetch held s.name mid after last outcome
     → StopsSources held ss before after last outcome
-fetch_stops held ss ws i s before mid after last (Unreadable name) earlier are there stops = (
-  reached_next held ss ws i s name are there stops.0,
+fetch_stops held ss ws i s before mid after last (Unreadable name) earlier are within there stops = (
+  reached_next held ss ws i s name are within there stops.0,
   subst (IsFault before after last) (sym stops.0) (fault_since before mid after last s.name earlier stops.1),
 )
-fetch_stops held ss ws i s before mid after last (TooLong name) earlier are there stops =
-    (reached_next held ss ws i s name are there stops.0, subst (IsLong held) (sym stops.0) stops.1)
-fetch_stops held ss ws i s before mid after last Memory earlier are there stops = tt
-fetch_stops held ss ws i s before mid after last outcome earlier are there stops = absurd stops
+fetch_stops held ss ws i s before mid after last (TooLong name) earlier are within there stops =
+    (reached_next held ss ws i s name are within there stops.0, subst (IsLong held) (sym stops.0) stops.1)
+fetch_stops held ss ws i s before mid after last Memory earlier are within there stops = tt
+fetch_stops held ss ws i s before mid after last outcome earlier are within there stops = absurd stops
 
 -- the plan's file is the first of a command
 pub plan_stops : (held : Held) (command : Command) (file : List ℕ) (before after : ℕ) (last : Option (List ℕ)) (outcome : Outcome) → plan_file command ≡ Some file
@@ -46,3 +52,11 @@ sources_stop held command plan before mid after last (Unreadable name) earlier i
 sources_stop held command plan before mid after last (TooLong name) earlier is stops = (inr (plan, is, stops.0), stops.1)
 sources_stop held command plan before mid after last Memory earlier is stops = tt
 sources_stop held command plan before mid after last outcome earlier is stops = absurd stops
+
+-- the source behind those that are UTF-8 isn't made
+pub source_stops : (all ws : List Written) (w : Written) (stop : Stop LoadRefusal) → ws ≡ take (length ws) all → length ws < length all
+    → w ≡ get_or all (length ws) w → AllByRecursion IsText ws → StopsSource (length ws) w stop → StopsTexts all stop
+source_stops all ws w (loading.Refused refusal) front within there texts stops =
+    let same : length ws ≡ 0 + length ws = omega arith in
+    not_text_at 0 all ws w refusal front within there texts (subst (λ n. IsNotText n w refusal) same stops)
+source_stops all ws w loading.Memory front within there texts stops = tt

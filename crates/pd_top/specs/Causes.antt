@@ -69,7 +69,7 @@ pub data Cause : Type 0 where
   source_refused : LoadRefusal → Cause
   accepted : Plan → Program → Cause
 
--- exactly one of these for each command and each content of the files, where those that the command comes to are held
+-- at most one of these for each command and each content of the files, where those that the command comes to are held
 abbrev pub IsCause : Held → Command → Cause → Type 0
 IsCause held command (too_long file) = IsReached held command file × IsLong held file
 IsCause held command (plan_refused refusal) =

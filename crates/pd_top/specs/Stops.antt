@@ -1,5 +1,5 @@
 -- What stops the steps of a command before it writes; want of memory may stop each.
-use Rattle.std.specs.Prelude.{◌≡◌, ℕ, List, Option, Ok, Err}
+use Rattle.std.specs.Prelude.{◌≡◌, ℕ, List, Option, Result, Ok, Err}
 use Rattle.pd_sections.specs.declared.Stop.{Stop}
 use Rattle.pd_sections.specs.declared.Stop.TheVariants as loading
 use Rattle.pd_sections.specs.Written.{Written}
@@ -7,6 +7,7 @@ use Rattle.pd_plan.specs.declared.plan.SourceSpec.{SourceSpec}
 use Rattle.pd_plan.specs.declared.plan.Plan.{Plan}
 use Rattle.pd_load.specs.declared.refusal.LoadRefusal.{LoadRefusal}
 use Rattle.pd_top.specs.declared.words.Command.{Command}
+use Rattle.pd_top.specs.declared.words.WordFault.{WordFault}
 use Rattle.pd_top.specs.declared.outcome.Outcome.{Outcome}
 use Rattle.pd_top.specs.declared.outcome.Outcome.TheVariants.{Usage, Unreadable, TooLong, PlanRefused, SourceRefused, Memory}
 use Rattle.pd_top.specs.Words.{file_of, command_of}
@@ -20,10 +21,13 @@ StopsFile words (Usage fault) = file_of words ≡ Err fault
 StopsFile words Memory = (file : List ℕ) × (file_of words ≡ Ok file)
 StopsFile words _ = ⊥
 
+abbrev pub StopsCommand : Result Command WordFault → Outcome → Type 0
+StopsCommand asked (Usage fault) = asked ≡ Err fault
+StopsCommand asked Memory = (command : Command) × (asked ≡ Ok command)
+StopsCommand asked _ = ⊥
+
 abbrev pub StopsWords : List (List ℕ) → Outcome → Type 0
-StopsWords words (Usage fault) = command_of words ≡ Err fault
-StopsWords words Memory = (command : Command) × (command_of words ≡ Ok command)
-StopsWords words _ = ⊥
+StopsWords words outcome = StopsCommand (command_of words) outcome
 
 -- ---- files; the library had so many faults before, has so many after, and this is the last one's name
 

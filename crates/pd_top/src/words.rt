@@ -1,7 +1,7 @@
 //! The words of a command.
 ghost use Rattle.std.specs.Prelude.{◌≡◌, MatchResult, Ok};
-ghost use Rattle.pd_top.specs.Words.{texts, file_of, command_of, is_dash_word};
-ghost use Rattle.pd_top.specs.Stops.{StopsFile, StopsWords};
+ghost use Rattle.pd_top.specs.Words.{texts, file_of, command_named, command_of, is_dash_word};
+ghost use Rattle.pd_top.specs.Stops.{StopsFile, StopsCommand, StopsWords};
 
 use crate::outcome::Outcome;
 use pd_values::Text;
@@ -40,17 +40,26 @@ fn file(alloc: Global, words: &[String]) -> Result<Text, Outcome>
     }
 }
 
+// The command of this name, with the words behind it.
+fn named(alloc: Global, name: &str, words: &[String]) -> Result<Command, Outcome>
+    ensures { MatchResult result
+        (λ command. command_named name.now (file_of (texts words.now)) ≡ Ok command)
+        (StopsCommand (command_named name.now (file_of (texts words.now)))) }
+{
+    match name {
+        "trace" => Ok(Command::Trace(file(alloc, words)?)),
+        "run" => Ok(Command::Run(file(alloc, words)?)),
+        "check" => Ok(Command::Check(file(alloc, words)?)),
+        _ => Err(Outcome::Usage(WordFault::UnknownCommand)),
+    }
+}
+
 /// What the words ask for.
 pub(crate) fn read_words(alloc: Global, words: &[String]) -> Result<Command, Outcome>
     ensures { MatchResult result (λ command. command_of (texts words.now) ≡ Ok command) (StopsWords (texts words.now)) }
 {
-    let [first, rest @ ..] = words else {
-        return Err(Outcome::Usage(WordFault::NoCommand));
-    };
-    match first.as_str() {
-        "trace" => Ok(Command::Trace(file(alloc, rest)?)),
-        "run" => Ok(Command::Run(file(alloc, rest)?)),
-        "check" => Ok(Command::Check(file(alloc, rest)?)),
-        _ => Err(Outcome::Usage(WordFault::UnknownCommand)),
+    match words {
+        [] => Err(Outcome::Usage(WordFault::NoCommand)),
+        [name, words @ ..] => named(alloc, name.as_str(), words),
     }
 }

@@ -1,10 +1,10 @@
-use Rattle.std.proofs.Common.{sym, ◌∙◌, arith}
-use Rattle.pd_shared.proofs.MarkLemmas.{item_read}
-use Rattle.pd_shared.proofs.GoneLemmas.{place_row, not_in_row}
+use Rattle.std.proofs.Common.{rules, sym}
+use Rattle.std.proofs.lemmas.List.Sorted.{answers_always}
+use Rattle.pd_shared.proofs.GoneLemmas.{found_in, absent_in}
 use Rattle.pd_shared.proofs.shared.has_node.Goals as goal
 
-pub returns-then-m-n : goal.returns-then-m-n
-returns-then-m-n c = sym (place_row c.args.n c.loop-m.m-index c.args.row.now c.loop-m-test.true (item_read c.args.row.now c.loop-m.m-index c.m-item.result c.loop-m-test.true c.m-item.is ∙ (sym c.m.view_is ∙ c.if-m-n.true)))
+pub returns-in-Ok : goal.returns-in-Ok
+returns-in-Ok c = sym (found_in c.args.row.now c.args.n _ c.requires (c.in-Ok.ensures.position (λ m. m) (answers_always _ _ _ (λ f a r g called. search rules))))
 
-pub returns : goal.returns
-returns c = sym (not_in_row c.args.n c.args.row.now (λ k lt e. c.loop-m.invariant k (omega arith) e))
+pub returns-in-Err : goal.returns-in-Err
+returns-in-Err c = sym (absent_in c.args.row.now c.args.n _ c.requires (c.in-Err.ensures.position (λ m. m) (answers_always _ _ _ (λ f a r g called. search rules))))

@@ -6,6 +6,7 @@ use Rattle.pd_shared.specs.declared.token.Reads.{Reads}
 use Rattle.pd_shared.specs.Book.{book_of, reads_at}
 use Rattle.pd_shared.specs.Sitting.{Sitting}
 use Rattle.pd_shared.proofs.TalkLemmas.{read_fits, no_less, tied_asked}
+use Rattle.pd_shared.proofs.HeldLemmas.{held_same}
 use Rattle.pd_shared.proofs.seat.SeatBoard.answers.Goals as goal
 
 abbrev read_as : ℕ → ℕ → Reads
@@ -25,6 +26,7 @@ invariant_of-self c =
     let read : c.index_mut-reads.result.now ≡ reads_at c.self.inside.token.sessions.items c.args.session = grind (arith, common_steps, c.index_mut-reads.ensures.value) in (
       ap (λ (h : Holder). h.id) c.load_answers-number.ensures.view ∙ c.self.invariant.0,
       rw (c.load_answers-number.ensures.view) (tied_asked c.self.inside.board.now.core.layout c.args.session c.load_answers-number.result _ _ c.self.inside.token.pass.view (book_of c.self.inside.token) _ lt (ap (λ (r : Reads). read_as (r.loads + 1) c.load_answers-number.result) read) tied),
+      rw (c.load_answers-number.ensures.view) (held_same c.self.inside.board.now.core.layout c.self.inside.token.pass.view _ c.self.inside.token.seats c.self.inside.token.counts.items refl refl refl c.self.invariant.2),
     )
 
 pub returns-clause-no_less : goal.returns-clause-no_less
@@ -35,3 +37,6 @@ returns-clause-no_less c =
 pub returns-clause-rest : goal.returns-clause-rest
 unfolding spent
 returns-clause-rest c = rw (← c.self.view_is, c.load_answers-number.ensures.view) refl
+
+pub returns-clause-steps : goal.returns-clause-steps
+returns-clause-steps c = rw (← c.self.view_is) (c.load_answers-number.ensures.found, ap (λ (h : Holder). h.view) c.load_answers-number.ensures.view)

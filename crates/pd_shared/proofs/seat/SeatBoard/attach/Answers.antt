@@ -13,6 +13,7 @@ use Rattle.pd_shared.specs.Sitting.{Sitting}
 use Rattle.pd_shared.specs.Tied.{known_set, is_alone, IsKnown, AreDeeds}
 use Rattle.pd_shared.proofs.ActLemmas.{with_reply, known_read, tied_attached}
 use Rattle.pd_shared.proofs.AttachLemmas.{idle_start, first_known, first_fresh, first_number, first_reply, alone_known, alone_first_then, alone_first_when}
+use Rattle.pd_shared.proofs.HeldLemmas.{held_same}
 use Rattle.pd_shared.proofs.seat.SeatBoard.attach.Goals as goal
 
 pub mark_row-requires-clause-idle : goal.mark_row-requires-clause-idle
@@ -29,6 +30,7 @@ invariant_of-self c =
           (tied_attached c.self.inside.board.now.core.layout c.args.b c.set_attached-word.result c.self.inside.token.pass.view c.mark_row.new.pass.view (book_of c.self.inside.token) c.reply.new.self c.known_attached.result lt tied c.mark_row.ensures.marked.rest c.set_attached-word.ensures.found
           (c.known_attached.ensures ∙ ap (λ (k : Known). known_set k c.set_attached-word.result) read)
           (c.reply.ensures ∙ ap (λ (a : Attach). with_reply c.self.inside.token.journal (acts.Attached c.args.b a)) c.attach_answer-answer.ensures)),
+      rw (c.set_attached-word.ensures.view) (held_same c.self.inside.board.now.core.layout c.self.inside.token.pass.view _ c.self.inside.token.seats c.self.inside.token.counts.items (ap (λ (v : View). v.seat_share) c.mark_row.ensures.marked.rest) (ap (λ (v : View). v.taken) c.mark_row.ensures.marked.rest) (ap (λ (v : View). v.deeds.counts) c.mark_row.ensures.marked.rest) c.self.invariant.2),
     )
 
 pub returns-clause-first : goal.returns-clause-first
@@ -103,3 +105,6 @@ returns-clause-alone_first c a =
       (λ e. alone_first_then c.self.inside.board.now.core.layout c.args.b c.set_attached-word.result c.mark_row.new.pass.view (book_of c.self.inside.token) lt known_m deeds_m c.set_attached-word.ensures.found tied.tried (sym c.attach_answer-answer.ensures ∙ e)),
       (λ h. c.attach_answer-answer.ensures ∙ alone_first_when c.self.inside.board.now.core.layout c.args.b c.set_attached-word.result c.mark_row.new.pass.view (book_of c.self.inside.token) lt known_m deeds_m c.set_attached-word.ensures.found (same ∙ a') h.0 h.1),
     )
+
+pub returns-clause-steps : goal.returns-clause-steps
+returns-clause-steps c = rw (← c.self.view_is) (c.mark_row.new.pass.view, c.mark_row.ensures.marked.marks, (c.set_attached-word.result, (c.set_attached-word.ensures.found, ap (λ (h : Holder). h.view) c.set_attached-word.ensures.view)))

@@ -1,8 +1,11 @@
-use Rattle.std.proofs.Common.{rules, ◌≡◌, ◌<◌, ◌≤◌, ◌+◌, ◌^◌, ◌==◌, if◌then◌else◌, sym, ap, ◌∙◌, subst, arith, length, length-set, List, ℕ}
+use Rattle.std.proofs.Common.{rules, refl, ◌≡◌, ◌<◌, ◌≤◌, ◌+◌, ◌^◌, ◌==◌, if◌then◌else◌, sym, ap, ◌∙◌, subst, arith, length, length-set, List, ℕ}
 use Rattle.std.specs.Prelude.{slice_index}
 use Rattle.pd_shared.specs.declared.token.Token.{Token}
 use Rattle.pd_shared.specs.Sitting.{Sitting}
 use Rattle.pd_shared.proofs.LoadLemmas.{loads_more, loads_low, number_read}
+use Rattle.pd_core.specs.declared.view.View.{View}
+use Rattle.pd_shared.specs.Held.{IsHeld}
+use Rattle.pd_shared.proofs.HeldLemmas.{held_same}
 use Rattle.pd_shared.proofs.seat.SeatBoard.chain.Goals as goal
 
 pub index_mut-requires : goal.index_mut-requires
@@ -46,6 +49,9 @@ invariant_of-self c =
           λ m. let bound = loads_low c.load_chain-chain.new.token.loads.items c.n.inside.0 c.index_mut.result.now c.self.inside.token.all_loads within is low m in omega (arith, bound, c.load_chain-chain.ensures.all_loads),
         );
       },
+      subst (λ (v : View). IsHeld c.self.inside.board.now.core.layout v c.load_chain-chain.new.token.seats c.load_chain-chain.new.token.counts.items) (sym c.load_chain-chain.ensures.view)
+          (subst (λ (t : Token). IsHeld c.self.inside.board.now.core.layout (record c.self.inside.token.pass.view { loads = c.load_chain-chain.new.token.pass.view.loads; loaded = c.load_chain-chain.new.token.pass.view.loaded; found_disposed = c.load_chain-chain.new.token.pass.view.found_disposed; steps = c.load_chain-chain.new.token.pass.view.steps; last = c.load_chain-chain.new.token.pass.view.last }) t.seats t.counts.items) (sym c.load_chain-chain.ensures.rest)
+          (held_same c.self.inside.board.now.core.layout c.self.inside.token.pass.view _ c.self.inside.token.seats c.self.inside.token.counts.items refl refl refl c.self.invariant.2)),
     )
 
 pub returns-clause-loads : goal.returns-clause-loads
@@ -58,3 +64,6 @@ returns-clause-loads c m =
     rw (← c.self.view_is, ← c.n.view_is)
     (loads_more c.load_chain-chain.new.token.loads.items c.n.inside.0 c.index_mut.result.now m within is
     ∙ ap (λ (xs : List ℕ). slice_index xs m + (if m == c.n.inside.0 then 1 else 0)) same)
+
+pub returns-clause-steps : goal.returns-clause-steps
+returns-clause-steps c = rw (← c.self.view_is, ← c.n.view_is) c.load_chain-chain.ensures.steps

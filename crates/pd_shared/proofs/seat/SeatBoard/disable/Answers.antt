@@ -1,4 +1,4 @@
-use Rattle.std.proofs.Common.{rules, ◌≡◌, ◌<◌, ap, sym, ◌∙◌, subst}
+use Rattle.std.proofs.Common.{rules, ◌≡◌, ◌<◌, ap, sym, ◌∙◌, subst, refl}
 use Rattle.pd_board.specs.declared.answers.Known.{Known}
 use Rattle.pd_board.specs.declared.answers.Known.TheVariants as knowns
 use Rattle.pd_board.specs.declared.answers.Toggle.{Toggle}
@@ -10,6 +10,7 @@ use Rattle.pd_shared.specs.Sitting.{Sitting}
 use Rattle.pd_shared.specs.Tied.{known_switched}
 use Rattle.pd_shared.proofs.ActLemmas.{with_reply, known_read}
 use Rattle.pd_shared.proofs.SwitchLemmas.{tied_off, off_gone, off_count}
+use Rattle.pd_shared.proofs.HeldLemmas.{held_same}
 use Rattle.pd_shared.proofs.seat.SeatBoard.disable.Goals as goal
 
 pub invariant_of-self : goal.invariant_of-self
@@ -22,6 +23,7 @@ invariant_of-self c =
           (tied_off c.self.inside.board.now.core.layout c.args.b c.set_off-word.result c.self.inside.token.pass.view (book_of c.self.inside.token) c.reply.new.self c.known_toggled.result lt c.self.invariant.1 c.set_off-word.ensures.found
           (c.known_toggled.ensures ∙ ap (λ (k : Known). known_switched k c.set_off-word.result) read)
           (c.reply.ensures ∙ ap (λ (a : Toggle). with_reply c.self.inside.token.journal (acts.Disabled c.args.b a)) c.toggle_answer-answer.ensures)),
+      rw (c.set_off-word.ensures.view) (held_same c.self.inside.board.now.core.layout c.self.inside.token.pass.view _ c.self.inside.token.seats c.self.inside.token.counts.items refl refl refl c.self.invariant.2),
     )
 
 pub returns-clause-count : goal.returns-clause-count
@@ -37,3 +39,6 @@ returns-clause-was_gone c gone =
 
 pub returns-clause-alone : goal.returns-clause-alone
 returns-clause-alone c = (invariant_of-self c).1.alone
+
+pub returns-clause-steps : goal.returns-clause-steps
+returns-clause-steps c = rw (← c.self.view_is) (c.set_off-word.result, (c.set_off-word.ensures.found, ap (λ (h : Holder). h.view) c.set_off-word.ensures.view))

@@ -1,21 +1,48 @@
-use Rattle.std.proofs.Common.{rules, ◌≡◌, ℕ, sym, ap, ◌∙◌, subst, arith, length}
+use Rattle.std.proofs.Common.{rules, ◌≡◌, ℕ, sym, ap, ◌∙◌, subst, arith, length, List, replicate}
 use Rattle.pd_plan.specs.declared.table.MatchTable.{MatchTable}
 use Rattle.pd_core.specs.Layout.{Layout, IsSound, bindings}
 use Rattle.pd_core.specs.Tokens.{Holder}
 use Rattle.pd_core.proofs.Places.{width_is}
+use Rattle.std.specs.declared.vec.Vec.{Vec}
+use Rattle.std.specs.declared.alloc.Global.{Global}
+use Rattle.pd_board.specs.declared.answers.Known.{Known}
+use Rattle.pd_board.specs.declared.answers.Known.TheVariants as knowns
+use Rattle.pd_shared.specs.declared.token.Reads.{Reads}
+use Rattle.pd_shared.specs.Book.{unread}
+use Rattle.pd_board.specs.Standing.{IsNew}
 use Rattle.pd_shared.specs.First.{IsFirst}
+use Rattle.pd_shared.specs.Sitting.{Sitting, standing_of}
 use Rattle.pd_shared.proofs.FirstLemmas.{tied_first}
+use Rattle.pd_shared.proofs.LeftLemmas.{new_stands}
 use Rattle.pd_shared.proofs.shared.SharedBoard.new.Goals as goal
 
 pub returns-clause-of : goal.returns-clause-of
 returns-clause-of c =
     let lay : c.in_ok-core.core.layout ≡ record { nodes = c.args.nodes; rows = c.args.matches.now.rows; sessions = c.args.sessions; contexts = c.args.contexts } = search rules in
     let count : length c.as_slice-given.result.now ≡ bindings c.in_ok-core.core.layout = ap length c.as_slice-given.ensures ∙ ap (λ (p : Layout). bindings p) (sym lay) in
-    let first : IsFirst (bindings c.in_ok-core.core.layout) c.in_ok-core.core.layout.nodes c.in_ok-core.core.layout.sessions c.in_ok-token.token =
-    subst (λ (x : ℕ × ℕ × ℕ). IsFirst x.0 x.1 x.2 c.in_ok-token.token) (λ i. (count i, (sym lay i).nodes, (sym lay i).sessions)) c.in_ok-token.ensures.1 in (
-      ap (λ (h : Holder). h.id) c.in_ok-token.ensures.0 ∙ c.in_ok-core.ensures.1,
-      tied_first c.in_ok-core.core.layout c.in_ok-token.token first (ap (λ (h : Holder). h.view) c.in_ok-token.ensures.0 ∙ c.in_ok-core.ensures.2),
+    let made = c.token-token.ensures in
+    let first : IsFirst (replicate (bindings c.in_ok-core.core.layout) 0) (replicate c.in_ok-core.core.layout.nodes 0) (replicate c.in_ok-core.core.layout.sessions unread) c.token-token.result =
+    subst (λ (x : List ℕ × List ℕ × List Reads). IsFirst x.0 x.1 x.2 c.token-token.result)
+    (λ i. ((c.in_ok-blank.ensures.counts ∙ ap (λ (n : ℕ). replicate n 0) count) i, (c.in_ok-blank.ensures.loads ∙ ap (λ (p : Layout). replicate p.nodes 0) (sym lay)) i, (c.in_ok-blank.ensures.sessions ∙ ap (λ (p : Layout). replicate p.sessions unread) (sym lay)) i)) made.first in
+    let known_new : c.token-token.result.known.items ≡ replicate (bindings c.in_ok-core.core.layout) knowns.Fresh = ap (λ (v : Vec Known Global). v.items) made.known ∙ (c.in_ok-known.ensures ∙ ap (λ (n : ℕ). replicate n knowns.Fresh) count) in
+    let both = tied_first c.in_ok-core.core.layout c.token-token.result first known_new made.seats (ap (λ (h : Holder). h.view) made.pass ∙ c.in_ok-core.ensures.2) in (
+      ap (λ (h : Holder). h.id) made.pass ∙ c.in_ok-core.ensures.1,
+      both.0,
+      both.1,
     )
+
+pub returns-clause-new : goal.returns-clause-new
+returns-clause-new c =
+    let lay : c.in_ok-core.core.layout ≡ record { nodes = c.args.nodes; rows = c.args.matches.now.rows; sessions = c.args.sessions; contexts = c.args.contexts } = search rules in
+    let count : length c.as_slice-given.result.now ≡ bindings c.in_ok-core.core.layout = ap length c.as_slice-given.ensures ∙ ap (λ (p : Layout). bindings p) (sym lay) in
+    let made = c.token-token.ensures in
+    let first : IsFirst (replicate (bindings c.in_ok-core.core.layout) 0) (replicate c.in_ok-core.core.layout.nodes 0) (replicate c.in_ok-core.core.layout.sessions unread) c.token-token.result =
+    subst (λ (x : List ℕ × List ℕ × List Reads). IsFirst x.0 x.1 x.2 c.token-token.result)
+    (λ i. ((c.in_ok-blank.ensures.counts ∙ ap (λ (n : ℕ). replicate n 0) count) i, (c.in_ok-blank.ensures.loads ∙ ap (λ (p : Layout). replicate p.nodes 0) (sym lay)) i, (c.in_ok-blank.ensures.sessions ∙ ap (λ (p : Layout). replicate p.sessions unread) (sym lay)) i)) made.first in
+    let known_new : c.token-token.result.known.items ≡ replicate (bindings c.in_ok-core.core.layout) knowns.Fresh = ap (λ (v : Vec Known Global). v.items) made.known ∙ (c.in_ok-known.ensures ∙ ap (λ (n : ℕ). replicate n knowns.Fresh) count) in
+    let next : Sitting = record { hub = c.in_ok-core.core; table = c.in_ok-table.table; token = c.token-token.result } in
+    subst (λ (x : MatchTable × Layout). IsNew x.0 x.1.nodes x.1.sessions x.1.contexts (standing_of next)) (λ i. (c.in_ok-table.ensures i, lay i))
+    (new_stands next (bindings c.in_ok-core.core.layout) c.in_ok-core.core.layout.nodes c.in_ok-core.core.layout.sessions (ap (λ (h : Holder). h.view) made.pass ∙ c.in_ok-core.ensures.2) known_new first)
 
 pub invariant_of-result : goal.invariant_of-result
 invariant_of-result c =

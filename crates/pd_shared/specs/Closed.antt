@@ -1,0 +1,107 @@
+-- What the tally of a board says, by all seats that were on it.
+use Rattle.std.specs.Prelude.{◌≡◌, ℕ, ◌+◌, ◌<◌, ◌≤◌, ◌^◌, ◌==◌, ◌&&◌, nat_lt, Bool, true, false, if◌then◌else◌, List, [], ◌∷◌, ◌++◌, length, slice_index, slice_index_or, count_by}
+use Rattle.std.specs.List.{All, filter_map}
+use Rattle.std.specs.Option.{ForSome}
+use Rattle.pd_board.specs.declared.answers.ActResult.{ActResult}
+use Rattle.pd_board.specs.declared.answers.ActResult.TheVariants as acts
+use Rattle.pd_board.specs.declared.answers.Attach.{Attach}
+use Rattle.pd_board.specs.declared.answers.Attach.TheVariants as attaches
+use Rattle.pd_board.specs.declared.answers.Sight.{Sight}
+use Rattle.pd_board.specs.declared.answers.Known.TheVariants as knowns
+use Rattle.pd_board.specs.declared.answers.State.TheVariants as states
+use Rattle.pd_board.specs.declared.answers.BindingTally.{BindingTally}
+use Rattle.pd_board.specs.declared.answers.Tally.{Tally}
+use Rattle.pd_board.specs.Answers.{has_attach, has_attachment, has_disposal, is_disposal, disposal, TogglesUpTo}
+use Rattle.pd_board.specs.Kept.{numbers_of, IsMissed, FitsToggles}
+use Rattle.pd_board.specs.Tally.{state_by, no_tally}
+use Rattle.pd_core.specs.Layout.{Layout, bindings, binding_word, session_word}
+use Rattle.pd_core.specs.Words.{attached, disposed, sum_in}
+use Rattle.pd_core.specs.Runs.{IsLast}
+use Rattle.pd_shared.specs.declared.token.Token.{Token}
+use Rattle.pd_shared.specs.declared.sights.Sights.{Sights}
+use Rattle.pd_shared.specs.Journal.{Entries}
+use Rattle.pd_shared.specs.Sitting.{number_for}
+use Rattle.pd_shared.specs.Left.{DidLeave}
+use Rattle.pd_shared.specs.Book.{known_at}
+
+-- ---- by the last words
+
+-- the tally of a binding, by its last word and by what its disposal found
+abbrev pub tally_by : ℕ → ℕ → BindingTally
+tally_by w n = record { state = state_by (disposed w == 1) (attached w == 1); count = if disposed w == 1 then n else sum_in w }
+
+-- those of the first k bindings, whose words begin at `first`
+pub record AreTallies (words : List ℕ) (first : ℕ) (counts : List ℕ) (k : ℕ) (tallies : List BindingTally) : Type 0 where
+  pub length_is : length tallies ≡ k
+  pub each : (b : ℕ) → b < k → slice_index_or tallies b no_tally ≡ tally_by (slice_index words (first + b)) (slice_index counts b)
+
+pub record AreNumbers (words : List ℕ) (first k : ℕ) (numbers : List ℕ) : Type 0 where
+  pub length_is : length numbers ≡ k
+  pub each : (s : ℕ) → s < k → slice_index numbers s ≡ slice_index words (first + s)
+
+-- ---- by what all seats did
+
+-- each number below n stands in the list once, and no other does
+abbrev pub OnceBelow : ℕ → List ℕ → Type 0
+OnceBelow n xs = (x : ℕ) → count_by (λ y. y == x) xs ≡ (if nat_lt x n then 1 else 0)
+
+-- an answer of an attach of the binding that no attach came before
+abbrev pub is_first_answer : Attach → Bool
+is_first_answer attaches.Already = false
+is_first_answer _ = true
+
+abbrev pub is_first : ℕ → ActResult → Bool
+is_first b (acts.Attached c a) = c == b && is_first_answer a
+is_first b _ = false
+
+-- the tally of a binding, by the sights and the answers of acts of all seats
+pub record IsOutcomeOfAll (b : ℕ) (sights : List Sight) (replies : List ActResult) (t : BindingTally) : Type 0 where
+  pub state_is : t.state ≡ state_by (has_disposal b replies) (has_attachment b replies)
+  -- the numbers of the binding are those below its count, each once; where there are some, an answer says that it was attached
+  pub numbers : OnceBelow t.count (numbers_of b sights)
+  pub attached_is : 0 < t.count → has_attachment b replies ≡ true
+  -- of the answers of attaches, where there are some, just one is not `Already`
+  pub first : count_by (is_first b) replies ≡ (if has_attach b replies then 1 else 0)
+  -- at most one answer says that it disposed of the binding, and that found this count
+  pub disposals : count_by (is_disposal b) replies ≤ 1
+  pub final : All (λ r. ForSome (disposal b r) (λ n. n ≡ t.count)) replies
+  -- each toggle found at most this count; of all of them the disables are as many as the enables, or one more
+  pub counted : TogglesUpTo b t.count replies
+  pub toggles : (n : ℕ) → t.count ≤ n → (off : Bool) × IsMissed b n off replies
+  -- and each number is a place, or missed, as the toggles up to it say
+  pub toggled : All (FitsToggles b replies) sights
+
+-- the entries of one kind of all seats: its own, and those that the others left
+abbrev pub all_of : {A : Type 0} → (Entries → List A) → List A → List Sights → List A
+all_of pick own [] = own
+all_of pick own (s ∷ ss) = all_of pick (own ++ pick s.journal) ss
+
+abbrev pub all_sights : Entries → List Sights → List Sight
+all_sights e left = all_of (λ d. d.sights) e.sights left
+
+abbrev pub all_replies : Entries → List Sights → List ActResult
+all_replies e left = all_of (λ d. d.replies) e.replies left
+
+-- the tally is that of last words of which the rule holds with the last view
+pub record IsOfWords (p : Layout) (last : Token) (t : Tally) (words : List ℕ) : Type 0 where
+  pub last_is : IsLast p last.pass.view words
+  pub states : (b : ℕ) → b < bindings p → (slice_index_or t.bindings b no_tally).state ≡ state_by (disposed (binding_word p words b) == 1) (attached (binding_word p words b) == 1)
+  pub sums : (b : ℕ) → b < bindings p → disposed (binding_word p words b) ≡ 0 → (slice_index_or t.bindings b no_tally).count ≡ sum_in (binding_word p words b)
+  pub answers : (s : ℕ) → s < p.sessions → slice_index t.answers s ≡ session_word p words s
+
+-- the token has all shares of the seats
+abbrev pub IsWhole : Token → Type 0
+IsWhole t = 2 ^ 32 ≤ t.pass.view.seat_share
+
+-- Where the last token has all shares of the seats, the tally tells what its seat and all that this took in did
+pub record IsClosed (p : Layout) (last : Token) (t : Tally) : Type 0 where
+  pub bindings_are : length t.bindings ≡ bindings p
+  pub sessions_are : length t.answers ≡ p.sessions
+  pub words : (ws : List ℕ) × IsOfWords p last t ws
+  -- what the last seat knows is so
+  pub known_gone : (b : ℕ) → b < bindings p → known_at last.known.items b ≡ knowns.Disposed → (slice_index_or t.bindings b no_tally).state ≡ states.Disposed
+  pub known_attached : (b : ℕ) → b < bindings p → known_at last.known.items b ≡ knowns.Attached → (slice_index_or t.bindings b no_tally).state ≡ states.Unattached → ⊥
+  pub outcomes : IsWhole last → (left : List Sights) → DidLeave left last.pass.view.taken → (b : ℕ) → b < bindings p
+      → IsOutcomeOfAll b (all_sights last.journal left) (all_replies last.journal left) (slice_index_or t.bindings b no_tally)
+  -- the answer numbers of a session are those below its number of answers, each once
+  pub numbers : IsWhole last → (s : ℕ) → s < p.sessions → OnceBelow (slice_index t.answers s) (filter_map (number_for s) (last.pass.view.talk.numbers ++ last.pass.view.talk.handed))
