@@ -1,4 +1,4 @@
--- The first number from some number on.
+-- Definition: the first number from some number on.
 use Rattle.std.specs.Prelude.{◌≡◌, ℕ, ◌<◌, ◌≤◌, Bool, true, false}
 use Rattle.std.specs.Int.{bit_at}
 

@@ -1,4 +1,4 @@
--- What the lists of a board say of one binding's life, where no other thread steps on its words.
+-- Definition: what the lists of a board say of one binding's life, where no other thread steps on its words.
 use Rattle.std.specs.Prelude.{◌≡◌, ℕ, zero, suc, ◌+◌, ◌<◌, ◌≤◌, ◌==◌, ◌&&◌, ◌||◌, not, nat_le, take, Bool, true, false, if◌then◌else◌, List, [], ◌∷◌, ◌++◌, length, slice_index_or, count_by, Option, Some, None}
 use Rattle.std.specs.List.{All, filter_map, fold}
 use Rattle.std.specs.Option.{ForSome}
@@ -31,6 +31,7 @@ abbrev pub disables_upto : ℕ → ℕ → ActResult → Bool
 disables_upto b n (acts.Disabled c (toggles.At m)) = c == b && nat_le m n
 disables_upto b n _ = false
 
+-- whether the answer is one of an enable of b that changed it, with a count of at most n
 abbrev pub enables_upto : ℕ → ℕ → ActResult → Bool
 enables_upto b n (acts.Enabled c (toggles.At m)) = c == b && nat_le m n
 enables_upto b n _ = false
@@ -44,6 +45,7 @@ abbrev pub place_of : Drawn → Option ℕ
 place_of (drawns.On p) = Some p
 place_of _ = None
 
+-- the number that a draw gave where it gave no entry
 abbrev pub missed_of : Drawn → Option ℕ
 missed_of (drawns.Missed p) = Some p
 missed_of _ = None
@@ -65,6 +67,7 @@ off_by b off (acts.Disabled c (toggles.At n)) = if c == b then true else off
 off_by b off (acts.Enabled c (toggles.At n)) = if c == b then false else off
 off_by b off _ = off
 
+-- whether b is switched off after these answers
 abbrev pub last_off : ℕ → List ActResult → Bool
 last_off b replies = fold (off_by b) false replies
 
@@ -92,6 +95,7 @@ follows b before (acts.Disposed c a) = not (c == b) || dispose_follows (has_disp
 follows b before (acts.Enabled c a) = not (c == b) || switch_follows (has_dispose b before) (not (last_off b before)) a
 follows b before (acts.Disabled c a) = not (c == b) || switch_follows (has_dispose b before) (last_off b before) a
 
+-- r is an answer that an act on b may get after these answers
 abbrev pub IsAnswer : ℕ → List ActResult → ActResult → Type 0
 IsAnswer b before r = follows b before r ≡ true
 
@@ -126,5 +130,6 @@ pub record Tells (b : ℕ) (s : Life) (sights : List Sight) (replies : List ActR
 abbrev pub life_at : List Life → ℕ → Life
 life_at lives b = slice_index_or lives b untouched
 
+-- the lists tell the life of each binding
 abbrev pub TellsAll : List Life → List Sight → List ActResult → Type 0
 TellsAll lives sights replies = (b : ℕ) → b < length lives → Tells b (life_at lives b) sights replies

@@ -1,3 +1,5 @@
+-- Definitions, which public contracts cite: Bits, Chain, Answers, Standing, Kept, Bound, Plain and Tally.
+-- For the proofs alone: NodeBits, Life, Journal, Sessions and Examples.
 pub mod Bits
 pub mod Chain
 pub mod Answers

@@ -1,4 +1,4 @@
--- Where a board of one thread stands, and what it keeps.
+-- Definition: where a board of one thread stands, and what it keeps.
 use Rattle.std.specs.Prelude.{◌-◌, true, if◌then◌else◌, length, slice_index}
 use Rattle.pd_board.specs.declared.plain.PlainBoard.{PlainBoard}
 use Rattle.pd_board.specs.Chain.{has}
@@ -7,6 +7,7 @@ use Rattle.pd_board.specs.Kept.{life_at, upto}
 use Rattle.pd_board.specs.Standing.{Standing, most_counted}
 use Rattle.pd_board.specs.Sessions.{word_at}
 
+-- where the board stands, by its fields
 abbrev pub standing_of : PlainBoard → Standing
 standing_of p = record {
   table = p.table;
