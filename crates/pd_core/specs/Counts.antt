@@ -1,4 +1,4 @@
--- Sums over lists and over the numbers below one, and how often a number stands in a list.
+-- Definition: sums over lists and over the numbers below one, and how often a number stands in a list.
 use Rattle.std.specs.Prelude.{ℕ, zero, suc, ◌+◌, ◌*◌, List, [], ◌∷◌, eqb, ltb, cond, Bool, true, false}
 
 -- the weights of all, added up
@@ -15,6 +15,7 @@ added f (suc n) = added f n + f n
 unfoldable pub same : ℕ → ℕ → ℕ
 same x y = cond (eqb x y) 1 0
 
+-- how often x stands in the list
 unfoldable pub times : ℕ → List ℕ → ℕ
 times x xs = total (same x) xs
 
@@ -22,6 +23,7 @@ times x xs = total (same x) xs
 unfoldable pub first_is : ℕ → ℕ × ℕ → ℕ
 first_is x p = same x p.0
 
+-- 1 where the pair is (x, y), and else 0
 unfoldable pub pair_is : ℕ → ℕ → ℕ × ℕ → ℕ
 pair_is x y p = same x p.0 * same y p.1
 

@@ -1,4 +1,4 @@
--- The rule as a table's rule, and what a call asks of the table.
+-- Definition: the rule as a table's rule, and what a call asks of the table.
 use Rattle.std.specs.Prelude.{◌≡◌, ℕ}
 use Rattle.atomic_table.specs.Table.{Me, Allows}
 use Rattle.atomic_table.specs.Table as table

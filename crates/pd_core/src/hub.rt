@@ -15,7 +15,7 @@ use std::marker::{Brand, Model};
 
 type Words = Shared<u8, View, Rows, Law>;
 
-/// The words that threads share. It owns the one table of them.
+/// The words that threads share. It owns the one table of them; specs/Layout.antt says where each word lies.
 ///
 /// Each of its calls that take a pass is one operation on one word of the table. It takes no memory, and its contract
 /// is the row of its kind of step: the condition on the pass, and what the pass's view is afterwards. A call that gives
@@ -125,7 +125,7 @@ impl Core {
         self.first_binding + b as usize
     }
 
-    // The word of a session. That of ended contexts lies behind the last.
+    // The word of a session. That of ended contexts lies after the last.
     fn session_word(&self, s: u32) -> usize
         requires { s ≤ self.now.layout.sessions }
         ensures { result ≡ session_at self.now.layout s }
@@ -158,7 +158,7 @@ impl Core {
         read::<Brand>(&table.shared, &mut p.seat, word, n, r)
     }
 
-    /// Loads the word of the binding `b`, of which nothing is known yet, and gives it. Where it is not live, the
+    /// Loads the word of the binding `b`, of which nothing is known, and gives it. Where it is not live, the
     /// view has a sight of the event without a number.
     pub fn load_binding(&self, p: &mut Pass, event: u32, b: u32) -> u64
         requires { (p.old.id ≡ self.now.id) × May self.now.layout (load_binding event b) p.old.view }
@@ -229,7 +229,7 @@ impl Core {
         set::<Brand>(&table.shared, &mut p.seat, word, 1, b, 0)
     }
 
-    /// Sets "disposed" in the word of the binding `b`, and gives the old word. Where that was not disposed yet, the
+    /// Sets "disposed" in the word of the binding `b`, and gives the old word. Where that was not disposed, the
     /// view keeps its sum as the count.
     pub fn set_disposed(&self, p: &mut Pass, b: u32) -> u64
         requires { (p.old.id ≡ self.now.id) × May self.now.layout (set_disposed b) p.old.view }
@@ -338,7 +338,7 @@ impl Core {
     }
 
     /// The core with all words 0, and the first pass, which has all shares. `rows` has for each binding the nodes that it
-    /// matches, rising. Answers `AllocError` where memory is wanting.
+    /// matches, rising. Where memory runs out it answers `AllocError`.
     pub fn new(
         alloc: Global,
         rows: Vec<Vec<u32>>,
@@ -379,8 +379,8 @@ impl Core {
         ))
     }
 
-    /// The last words. The rule holds of them, with the view of the last pass. Answers `AllocError` where memory is
-    /// wanting, and has used up the core then too.
+    /// Ends the core, and gives its last words. The rule holds of them, with the view of the last pass. Where memory
+    /// runs out it answers `AllocError`, and the core is used up all the same.
     pub fn close(self, alloc: Global, last: Pass) -> Result<Vec<u64>, AllocError>
         requires { last.id ≡ self.id }
         ensures { IfOk result (λ ws. IsLast self.layout last.view ws.items) }
