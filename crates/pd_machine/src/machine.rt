@@ -11,10 +11,10 @@ use std::alloc::{AllocError, Global};
 use std::marker::Model;
 use std::mem;
 
-/// The most live frames.
+/// The most live frames, over all sources together. A call beyond it is the fault `Depth`.
 pub const MOST_FRAMES: usize = 2_000;
 
-/// The most bytes of output.
+/// The most bytes of output: 2^24. A line beyond it is the fault `OutputLong`.
 const LONGEST_OUTPUT: usize = 16_777_216;
 
 /// What a turn told: nothing, or an event.
