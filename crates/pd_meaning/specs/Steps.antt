@@ -1,4 +1,5 @@
--- How the machine that runs stands for the pure one, and what it means that a call does a step of the pure one.
+-- Definition: how the machine that runs stands for the pure one, and what it means that a call does a step of the pure
+-- one.
 use Rattle.std.specs.Prelude.{◌≡◌, List}
 use Rattle.pd_machine.specs.declared.run.Pending.{Pending}
 use Rattle.pd_machine.specs.Events.{State, Told}
@@ -9,6 +10,7 @@ use Rattle.pd_meaning.specs.Machine.{Machine, machine}
 abbrev pub state_of : Held → List Told → State
 state_of m es = record { scene = scene_of m; output = m.output; events = es; left = m.left }
 
+-- the machine that is kept, together with the events that it told
 abbrev pub with_events : Held → List Told → Machine
 with_events m es = machine m.mode m.stack (state_of m es)
 
