@@ -104,7 +104,8 @@ pub enum Frame {
     Procedure,
 }
 
-/// An open block: its names, the numbers of its constants, variables and whole procedures so far, and the first token behind these.
+/// An open block: its names, the numbers of its constants, variables and whole procedures so far, and the first token
+/// after these.
 #[derive(Drop)]
 pub struct Block {
     pub names: Names,
@@ -126,14 +127,14 @@ pub enum Mode {
     AfterConstants,
     BeforeVariable,
     AfterVariable,
-    /// Behind the variables, or behind a procedure.
+    /// After the variables, or after a procedure.
     AfterVariables,
     BeforeProcedure,
     AfterProcedure,
     BeforeStatement,
     BeforeBecomes(u32, Meaning),
     BeforeCallee(u32),
-    /// Behind a statement that ends with `end` or a name.
+    /// After a statement that ends with `end` or a name.
     AfterStatement,
     BeforeCondition,
     BeforeExpression(Purpose),
@@ -141,6 +142,6 @@ pub enum Mode {
     Wants(Purpose, Levels),
     /// An operand has been read.
     Has(Purpose, Levels),
-    /// Behind the period.
+    /// After the period.
     Finished,
 }
