@@ -1,4 +1,4 @@
--- The life of a binding on one context, while nothing there acts on it.
+-- Definition: the life of a binding on one context, while nothing there acts on it.
 use Rattle.std.specs.Prelude.{◌≡◌, ℕ, ◌≤◌, Bool, true, ◌&&◌, nat_lt, if◌then◌else◌, List, [], ◌∷◌}
 use Rattle.std.specs.List.{list_all, filter_map}
 use Rattle.pd_board.specs.declared.answers.Known.{Known}
@@ -17,6 +17,7 @@ drop_while test (x ∷ xs) = if test x then drop_while test xs else x ∷ xs
 abbrev pub off_then_numbers : List Drawn → Bool
 off_then_numbers ds = list_all is_number (drop_while is_off ds)
 
+-- the draws gave numbers first, and from some draw on none
 abbrev pub numbers_then_off : List Drawn → Bool
 numbers_then_off ds = list_all is_off (drop_while is_number ds)
 
