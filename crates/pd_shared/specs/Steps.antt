@@ -1,4 +1,4 @@
--- The steps of each call of a seat, and how many they are.
+-- Definition: the steps of each call of a seat, and how many they are.
 use Rattle.std.specs.Prelude.{◌≡◌, ℕ, zero, suc, ◌+◌, ◌*◌, ◌/◌, ◌≤◌, ◌==◌, Bool, true, false, if◌then◌else◌, List, [], ◌∷◌, length, slice_index}
 use Rattle.pd_board.specs.declared.answers.Known.{Known}
 use Rattle.pd_board.specs.declared.answers.Drawn.{Drawn}
@@ -55,6 +55,7 @@ ChainSteps p n rows v next = (w : ℕ) × (m : View) × Took p (load_node n) v w
 
 -- ---- how many they are
 
+-- a call that is one step raises the number of steps by one
 abbrev pub CountsOne : Type 0
 CountsOne = (p : Layout) (k : Kind) (v next : View) → TookOne p k v next → next.steps ≡ v.steps + 1
 
@@ -62,6 +63,7 @@ CountsOne = (p : Layout) (k : Kind) (v next : View) → TookOne p k v next → n
 abbrev pub CountsChain : Type 0
 CountsChain = (p : Layout) (n rows : ℕ) (v next : View) → ChainSteps p n rows v next → next.steps ≡ v.steps + (1 + rows)
 
+-- an attach takes two steps for each node of the row, and one more
 abbrev pub CountsAttach : Type 0
 CountsAttach = (p : Layout) (b : ℕ) (v next : View) → AttachSteps p b v next → next.steps ≡ v.steps + (2 * length (row p b) + 1)
 
@@ -79,12 +81,14 @@ pub data EventCall : Type 0 where
   passes : EventCall
   disposes : ℕ → EventCall
 
+-- the steps of this call lead from the view `v` to `next`
 abbrev pub DoesCall : Layout → EventCall → View → View → Type 0
 DoesCall p (draws event b) v next = (drawn : Drawn) × (later : Known) × DrawSteps p event b v next drawn later
 DoesCall p (sweeps n b) v next = TookOne p (clear_bit n b) v next
 DoesCall p passes v next = next ≡ v
 DoesCall p (disposes b) v next = TookOne p (set_disposed b) v next
 
+-- the steps of these calls, one after another, lead from the view `v` to `next`
 abbrev pub DoesCalls : Layout → List EventCall → View → View → Type 0
 DoesCalls p [] v next = next ≡ v
 DoesCalls p (x ∷ xs) v next = (m : View) × DoesCall p x v m × DoesCalls p xs m next

@@ -1,4 +1,4 @@
--- The steps that a call took, as its view tells.
+-- Definition: the steps that a call took, as its view tells.
 use Rattle.std.specs.Prelude.{◌≡◌, ℕ, ◌/◌, ◌%◌, List, ◌==◌, Bool, true, false, if◌then◌else◌}
 use Rattle.pd_core.specs.declared.view.View.{View}
 use Rattle.pd_plan.specs.declared.table.MatchTable.{MatchTable}
@@ -24,12 +24,15 @@ drawn_as true true n = drawns.Missed n
 drawn_as true false n = drawns.On n
 drawn_as false _ n = drawns.Off
 
+-- the answer of a draw that found the word w
 abbrev pub drawn_by : ℕ → Drawn
 drawn_by w = drawn_as (live w) (off w == 1) (sum_in w)
 
+-- what is known of a binding after a draw that found the word w
 abbrev pub known_drawn : ℕ → Known
 known_drawn w = if live w then knowns.Attached else knowns.Disposed
 
+-- what is known of a binding after a look at its word w, which isn't live
 abbrev pub known_looked : ℕ → Known
 known_looked w = if disposed w == 1 then knowns.Disposed else knowns.Fresh
 
