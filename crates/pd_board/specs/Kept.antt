@@ -26,7 +26,7 @@ upto (suc n) = upto n ++ n ∷ []
 abbrev pub numbers_of : ℕ → List Sight → List ℕ
 numbers_of b sights = filter_map (number_in b) sights
 
--- it switched the binding off, or on, with a count of at most n
+-- whether the answer is one of a disable of b that changed it, with a count of at most n
 abbrev pub disables_upto : ℕ → ℕ → ActResult → Bool
 disables_upto b n (acts.Disabled c (toggles.At m)) = c == b && nat_le m n
 disables_upto b n _ = false
@@ -40,7 +40,7 @@ enables_upto b n _ = false
 abbrev pub IsMissed : ℕ → ℕ → Bool → List ActResult → Type 0
 IsMissed b n missed replies = count_by (disables_upto b n) replies ≡ count_by (enables_upto b n) replies + (if missed then 1 else 0)
 
--- the number of a draw, where it is the place of an entry, and where it is missed
+-- the number that a draw gave where it is the place of an entry
 abbrev pub place_of : Drawn → Option ℕ
 place_of (drawns.On p) = Some p
 place_of _ = None
@@ -61,7 +61,7 @@ pub record FitsToggles (b : ℕ) (replies : List ActResult) (s : Sight) : Type 0
 abbrev pub EachAfter : {X : Type 0} → (List X → X → Type 0) → List X → Type 0
 EachAfter {X} P xs = (k : ℕ) (d : X) → k < length xs → P (take k xs) (slice_index_or xs k d)
 
--- whether the binding is switched off after these answers
+-- whether b is switched off after one more answer, where it was so before or not
 abbrev pub off_by : ℕ → Bool → ActResult → Bool
 off_by b off (acts.Disabled c (toggles.At n)) = if c == b then true else off
 off_by b off (acts.Enabled c (toggles.At n)) = if c == b then false else off
@@ -126,7 +126,7 @@ pub record Tells (b : ℕ) (s : Life) (sights : List Sight) (replies : List ActR
   pub switched : last_off b replies ≡ s.off
   pub history : EachAfter (IsAnswer b) replies
 
--- the life of a binding, and that the lists tell each
+-- the life of binding b; untouched where there is none
 abbrev pub life_at : List Life → ℕ → Life
 life_at lives b = slice_index_or lives b untouched
 

@@ -52,7 +52,7 @@ disposed s = if s.disposed then disposes.Already else disposes.Disposed s.count
 abbrev pub after_dispose : Life → Life
 after_dispose s = record s { disposed = true }
 
--- switched off, or on
+-- what a switch off (or on) answers
 abbrev pub switched : Bool → Life → Toggle
 switched off s = if s.disposed then toggles.Gone else if beq s.off off then toggles.Already else toggles.At s.count
 

@@ -75,11 +75,11 @@ NothingDue s = (b : ℕ) → s.due b ≡ false
 abbrev pub KnowsByItself : Standing → Type 0
 KnowsByItself s = s.alone ≡ true → (b : ℕ) → s.known b ≡ knowns.Disposed → has_disposal b s.replies ≡ true
 
--- how many numbers of all bindings together can be drawn, and how many answers of a session and how many ends there can be
+-- how many numbers of all bindings together can be drawn
 abbrev pub most_draws : ℕ
 most_draws = 2 ^ 60
 
--- the greatest number of 32 bits
+-- how many answers of a session, and how many ends, there can be
 abbrev pub most_counted : ℕ
 most_counted = 2 ^ 32 - 1
 
