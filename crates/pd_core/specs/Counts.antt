@@ -19,7 +19,7 @@ same x y = cond (eqb x y) 1 0
 unfoldable pub times : ℕ → List ℕ → ℕ
 times x xs = total (same x) xs
 
--- 1 where the pair has this first number, and 1 where it has both of these
+-- 1 where the pair has this first number, and else 0
 unfoldable pub first_is : ℕ → ℕ × ℕ → ℕ
 first_is x p = same x p.0
 

@@ -20,7 +20,7 @@ pub data Turn : Type 0 where
   splits : ℕ → Turn
   joins : ℕ → ℕ → Turn
 
--- the shares that a split hands
+-- the view has the shares that a split hands on
 abbrev pub MaySplit : Layout → View → Type 0
 MaySplit p v = (2 ≤ v.seat_share) × (handed_share ≤ v.draw_share) × ((s : ℕ) → s < p.sessions → handed_answers ≤ answer_share s v.talk) × (1 ≤ v.talk.end_granted)
 
@@ -52,7 +52,7 @@ abbrev pub BitsComeBySetBit : Type 0
 BitsComeBySetBit = (p : Layout) (s : State) (ts : List Turn) (next : State) (n b : ℕ) → Good p s.words s.views → Runs p s ts next → n < p.nodes → b < bindings p → mark p s.words n b ≡ 0 → mark p next.words n b ≡ 1
     → (k : ℕ) × (id : ℕ) × (get_elem? ts k ≡ some (moves (set_bit n b) id))
 
--- and a clear bit leaves it clear
+-- a clear bit leaves the bit clear
 abbrev pub ClearBitLeavesNone : Type 0
 ClearBitLeavesNone = (p : Layout) (s : State) (id : ℕ) (next : State) (n b : ℕ) → Good p s.words s.views → Leads p s (moves (clear_bit n b) id) next → mark p next.words n b ≡ 0
 

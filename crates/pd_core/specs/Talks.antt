@@ -6,7 +6,7 @@ use Rattle.pd_core.specs.declared.view.Talk.{Talk}
 use Rattle.pd_core.specs.Layout.{Layout, session_word, end_word}
 use Rattle.pd_core.specs.Counts.{total, times, first_is, pair_is, once_below, one_if}
 
--- how many answers of the session it has counted, and how often this number, with those of the passes taken in
+-- how many answers of session s this pass counted, and those that it took in
 unfoldable pub spent : ℕ → Talk → ℕ
 spent s t = total (first_is s) t.numbers + total (first_is s) t.handed
 
@@ -18,7 +18,7 @@ numbers s x t = total (pair_is s x) t.numbers + total (pair_is s x) t.handed
 abbrev pub answer_share : ℕ → Talk → ℕ
 answer_share s t = t.granted - spent s t
 
--- how often it read this number of the session, and this number of ends, with what the passes taken in read
+-- how often this pass, or one that it took in, read the number x from the word of session s
 unfoldable pub readings : ℕ → ℕ → Talk → ℕ
 readings s x t = total (pair_is s x) t.reads + total (pair_is s x) t.handed_reads
 
@@ -61,7 +61,7 @@ joined_talk t u = record t {
   ends = t.ends + ends_of u;
 }
 
--- the number n of the session was counted; n was read; an end was counted; n ends were read
+-- after the number n of session s was counted
 abbrev pub answered : ℕ → ℕ → Talk → Talk
 answered s n t = record t { numbers = t.numbers ++ (s, n) ∷ [] }
 

@@ -41,7 +41,7 @@ mark p words n b = bit_of (slice_index words (row_at p n (b / 64))) (b % 64)
 unfoldable pub summary : List ℕ → ℕ → ℕ → ℕ
 summary words n r = bit_of (slice_index words n) r
 
--- the operand with this bit alone, and the one with all others
+-- the word of 64 bits in which only bit b is set
 abbrev pub only_bit : ℕ → ℕ
 only_bit b = 1 * 2 ^ b % 2 ^ 64
 
