@@ -21,7 +21,7 @@ abbrev pub lookup : List ℕ → List Symbol → Option ℕ
 lookup x [] = None
 lookup x (s ∷ ss) = option_or (lookup x ss) (if bytes_eq s.name x then Some s.item else None)
 
--- the number of the next item, after a node, and after the nodes of a source
+-- the number of the next item after a node
 abbrev pub next_item : Kind → ℕ → ℕ
 next_item kind item = if is_root kind then item + 1 else item
 
