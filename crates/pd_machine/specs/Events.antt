@@ -93,7 +93,7 @@ set_variable c up slot a = set_home c (slice_get (blocks_of (frame_of c.frames 0
 abbrev pub standing : ℕ → Scene → Scene
 standing n c = record c { frames = change_at c.frames (length c.frames - 1) (λ f. record f { at = n }) }
 
--- one more frame, and one less
+-- the scene with one more frame, the innermost
 abbrev pub push_frame : Frame → Scene → Scene
 push_frame f c = record c { frames = c.frames ++ f ∷ [] }
 
