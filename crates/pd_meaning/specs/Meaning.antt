@@ -89,7 +89,7 @@ abbrev pub parts : Run → List ℕ → List Value → (List Value → State →
 parts run [] values rule s = rule values s
 parts run (m ∷ ms) values rule s = with_value (run m s) (λ a t. parts run ms (values ++ a ∷ []) rule t)
 
--- a rule on one value and on two; no node has another number of parts
+-- a rule on the value of one part; a node with another number of parts is never read
 abbrev pub on_one : ℕ → List Value → (Value → State → Outcome) → State → Outcome
 on_one n (a ∷ []) rule s = rule a s
 on_one n _ rule s = ends (Faults WrongKind n) s
@@ -140,7 +140,7 @@ abbrev pub loop : ℕ → Run → ℕ → List ℕ → State → Outcome
 loop bound run n (c ∷ block ∷ []) s = turns bound run n c block s
 loop bound run n _ s = ends (Faults WrongKind n) s
 
--- `||` and `&&`: the right side only where the left one doesn't decide
+-- the right side of an `||` or an `&&`, which must be a truth value
 abbrev pub right_truth : Run → ℕ → ℕ → State → Outcome
 right_truth run n r s = with_value (run r s) (λ b t. on_truth n b (ends (Gives (Truth true))) (ends (Gives (Truth false))) t)
 
@@ -195,7 +195,7 @@ activation p v n (_ ∷ _) rule s =
 
 -- ---- calls
 
--- the frame is removed; an unwinding to this very frame makes the call again, or gives the call a value
+-- the innermost frame is removed
 abbrev pub popped : State → State
 popped s = record s { scene = pop_frame s.scene }
 

@@ -6,7 +6,7 @@ use Rattle.pd_machine.specs.Events.{State, Told}
 use Rattle.pd_machine.specs.Held.{Held, scene_of}
 use Rattle.pd_meaning.specs.Machine.{Machine, machine}
 
--- the state, and the pure machine, that a machine stands for which has told these events
+-- the state for which a machine stands that has told these events
 abbrev pub state_of : Held → List Told → State
 state_of m es = record { scene = scene_of m; output = m.output; events = es; left = m.left }
 
