@@ -10,7 +10,7 @@ use Rattle.pd_plan_json.specs.Reading.{Read, ◌>>=◌, ◌>>◌, refuse, refuse
 abbrev pub outside : ℕ → ℕ → ℕ → Bool
 outside low high n = nat_lt n low || nat_lt high n
 
--- the kinds of JSON: a whole number, a truth value, a text, a list, an object
+-- a whole number that is written without sign, point and exponent
 abbrev pub whole : Data → Read ℕ
 whole (number (unsigned n)) = Ok n
 whole _ = refuse WrongShape
