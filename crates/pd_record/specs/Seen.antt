@@ -20,7 +20,7 @@ in_order (s ∷ ss) = list_all (λ t. is_before t.event t.binding s) ss && in_or
 
 -- ---- Enters
 
--- how many Enters there are, how many of one node, and how many up to an event
+-- how many of the events are Enters
 abbrev pub enters : List Told → ℕ
 enters events = count_by (λ t. is_enter t.event.kind) events
 
