@@ -10,7 +10,7 @@ use Rattle.pd_sections.specs.Pieces.{is_letter, is_digit, is_empty, piece_if, wo
 abbrev pub is_white : ℕ → Bool
 is_white byte = (byte == 32) || (byte == 9) || (byte == 13) || (byte == 10)
 
--- a name begins with a letter or `_`, and goes on with these and digits
+-- whether a name may begin with this byte: a letter or `_`
 abbrev pub is_name_start : ℕ → Bool
 is_name_start byte = is_letter byte || (byte == 95)
 
@@ -22,7 +22,7 @@ is_name_part byte = is_name_start byte || is_digit byte
 abbrev pub keywords : List (List ℕ)
 keywords = codes "const" ∷ codes "var" ∷ codes "procedure" ∷ codes "call" ∷ codes "begin" ∷ codes "end" ∷ codes "if" ∷ codes "then" ∷ codes "while" ∷ codes "do" ∷ codes "odd" ∷ []
 
--- symbols of one byte, and those of two
+-- whether the byte alone is a symbol
 abbrev pub is_symbol : ℕ → Bool
 is_symbol byte = list_any (λ symbol. byte == symbol) (codes ".,;=#<>+-*/()!")
 

@@ -23,7 +23,7 @@ after_line_end bytes zero = 0
 after_line_end [] (suc at) = suc at
 after_line_end (byte ∷ bytes) (suc at) = if line_ends (byte ∷ bytes) (suc at) == 0 then suc at else after_line_end bytes at
 
--- the line and the column of the place after the first `at` bytes; both start at 1, and a column counts bytes
+-- the line of the place after the first `at` bytes, from 1
 abbrev pub line_at : List ℕ → ℕ → ℕ
 line_at bytes at = 1 + line_ends bytes at
 

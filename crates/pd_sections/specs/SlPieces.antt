@@ -11,7 +11,7 @@ use Rattle.pd_sections.specs.Pieces.{is_letter, is_digit, is_line_end, is_empty,
 abbrev pub is_white : ℕ → Bool
 is_white byte = (byte == 32) || (byte == 9) || (byte == 13) || (byte == 10) || (byte == 12)
 
--- a name begins with a letter, `_` or `$`, and goes on with these and digits
+-- whether a name may begin with this byte: a letter, `_` or `$`
 abbrev pub is_name_start : ℕ → Bool
 is_name_start byte = is_letter byte || (byte == 95) || (byte == 36)
 
@@ -23,7 +23,7 @@ is_name_part byte = is_name_start byte || is_digit byte
 abbrev pub keywords : List (List ℕ)
 keywords = codes "function" ∷ codes "while" ∷ codes "if" ∷ codes "else" ∷ codes "return" ∷ codes "break" ∷ codes "continue" ∷ codes "debugger" ∷ []
 
--- symbols of one byte but `/`, and those of two
+-- whether the byte alone is a symbol; `/` has a rule of its own
 abbrev pub is_symbol : ℕ → Bool
 is_symbol byte = list_any (λ symbol. byte == symbol) (codes "(){},;=<>+-*")
 
