@@ -30,7 +30,7 @@ use Rattle.pd_shared.specs.Book.{known_at}
 abbrev pub tally_by : ℕ → ℕ → BindingTally
 tally_by w n = record { state = state_by (disposed w == 1) (attached w == 1); count = if disposed w == 1 then n else sum_in w }
 
--- those of the first k bindings, whose words begin at `first`
+-- the tallies are those of the first k bindings, whose words begin at `first`
 pub record AreTallies (words : List ℕ) (first : ℕ) (counts : List ℕ) (k : ℕ) (tallies : List BindingTally) : Type 0 where
   pub length_is : length tallies ≡ k
   pub each : (b : ℕ) → b < k → slice_index_or tallies b no_tally ≡ tally_by (slice_index words (first + b)) (slice_index counts b)

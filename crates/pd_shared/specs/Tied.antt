@@ -79,7 +79,7 @@ abbrev pub known_set : Known → ℕ → Known
 known_set knowns.Disposed w = knowns.Disposed
 known_set _ w = if disposed w == 1 then knowns.Disposed else knowns.Attached
 
--- and after one that switched it on, or off
+-- what is known after a step that switched it on, or off
 abbrev pub known_switched : Known → ℕ → Known
 known_switched known w = if disposed w == 1 then knowns.Disposed else known
 

@@ -18,7 +18,7 @@ use Rattle.pd_board.specs.declared.answers.Drawn.TheVariants as drawns
 abbrev pub Took : Layout → Kind → View → ℕ → View → Type 0
 Took p k v w next = Found p k v w × (next ≡ after p k w v)
 
--- what a draw gives, and what is known then, by the word that it found
+-- the answer of a draw that found the binding live or not, off or not, and with this sum
 abbrev pub drawn_as : Bool → Bool → ℕ → Drawn
 drawn_as true true n = drawns.Missed n
 drawn_as true false n = drawns.On n
