@@ -89,7 +89,7 @@ IsReason reading (SourceRefused refusal) = IsDueTo reading (source_refused refus
 IsReason reading Memory = Unit {0}
 IsReason reading _ = ⊥
 
--- where the sink failed, it took some first bytes of the text
+-- what the answer says of what was read and written; where the sink failed, it took some first bytes of the text
 abbrev pub Tells : Reading → Writing → Outcome → Type 0
 Tells reading writing (Ran report) = (text : List ℕ) × IsWhole reading.words reading.held (unwritten.Ran report) text × IsWritten writing text
 Tells reading writing Checked = (line : List ℕ) × IsWhole reading.words reading.held unwritten.Checked line × IsWritten writing line
@@ -98,7 +98,7 @@ Tells reading writing (SinkFailed answer) =
     × (writing.before < writing.after) × IsWritten writing (take n text)
 Tells reading writing outcome = IsReason reading outcome
 
--- nothing was asked of the sink
+-- whether the answer is one with which nothing was asked of the sink
 abbrev pub is_unwritten : Outcome → Bool
 is_unwritten (Ran report) = false
 is_unwritten Checked = false
@@ -191,7 +191,7 @@ rule_name Doubled = codes "Doubled"
 rule_name TooDeep = codes "TooDeep"
 rule_name TooManyNodes = codes "TooManyNodes"
 
--- what a source is refused for, and the byte, or the number of the export or context
+-- the word of what a source is refused for
 abbrev pub cause_name : LoadCause → List ℕ
 cause_name (Spelling refusal) = rule_name refusal.rule
 cause_name (NoSuchItem number) = codes "NoSuchItem"
