@@ -55,7 +55,7 @@ sub = on_numbers (λ x y. number (x -ℤ y))
 abbrev pub mul : Value → Value → ValueOrFault
 mul = on_numbers (λ x y. number (x *ℤ y))
 
--- rounded toward zero
+-- the quotient of two whole numbers, rounded toward zero; by 0 it is a fault
 abbrev pub quotient : ℤ → ℤ → ValueOrFault
 quotient x (pos zero) = Err DivZero
 quotient x y = number (int_div x y)
@@ -85,7 +85,7 @@ equal Null Null = true
 equal (Func i) (Func j) = i == j
 equal _ _ = false
 
--- a sign before a number: `-` gives 0 minus the number
+-- a number with the sign `+` before it: the number itself
 abbrev pub plus : Value → ValueOrFault
 plus (Number x) = Ok (Number x)
 plus _ = Err WrongKind
