@@ -1,4 +1,4 @@
--- Twin of the code in src/life.rt, for its proofs.
+-- Twin of the code in src/life.rt, for its proofs; `standing_of` uses `untouched` and `known` of it.
 -- What each call answers about a binding, and what it makes of it, on a board that no other thread steps on.
 use Rattle.std.specs.Prelude.{◌+◌, Bool, true, false, not, ◌&&◌, if◌then◌else◌}
 use Rattle.std.specs.Bool.{beq}

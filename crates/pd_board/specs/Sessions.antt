@@ -1,4 +1,4 @@
--- Twin of the code in src/session.rt, for its proofs.
+-- `unread` and `word_at` are definitions, which `standing_of` uses; the rest is for proofs.
 -- The words of the sessions on a board of one thread.
 use Rattle.std.specs.Prelude.{ℕ, ◌+◌, ◌≤◌, ◌^◌, List, slice_index_or}
 use Rattle.pd_board.specs.declared.session.SessionWord.{SessionWord}
