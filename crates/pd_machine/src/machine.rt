@@ -288,6 +288,7 @@ fn end_of(came: NodeResult) -> End
     }
 }
 
+/// The end of a run that is stopped by this.
 fn end_of_cutoff(cutoff: Cutoff) -> End
     ensures { result ≡ end_of (NodeResult.Stops cutoff) }
 {
@@ -297,6 +298,7 @@ fn end_of_cutoff(cutoff: Cutoff) -> End
     }
 }
 
+/// The end of a run that is over, by its mode; `Killed` for a mode in which no run is over.
 fn end_at(mode: Mode) -> End
     ensures { result ≡ end_at mode }
 {
