@@ -1,4 +1,5 @@
--- Twin of the code, for its proofs: no public contract needs it.
+-- Twin of the code, for its proofs. Of public contracts only those of `word_of` and `name_of` cite it, which no other
+-- crate uses.
 -- What the reader holds where the machine with trees is: the frames and the blocks that are open, and the nodes of all
 -- its trees, each after its parts.
 use Rattle.std.specs.Prelude.{ℕ, ◌+◌, ◌*◌, List, [], ◌∷◌, ◌++◌, length, Option, Some, None}

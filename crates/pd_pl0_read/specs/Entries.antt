@@ -1,4 +1,4 @@
--- Twin of the code, for its proofs: no public contract needs it.
+-- Twin of the code, for its proofs. Of public contracts only those of `Names` cite it, which no other crate uses.
 -- The names of a block in the order of their bytes, each with its latest declaration.
 use Rattle.std.specs.Prelude.{ℕ, List, [], ◌∷◌, Option, Vec}
 use Rattle.std.specs.Ordering.{nat_cmp}
