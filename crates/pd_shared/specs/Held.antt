@@ -1,4 +1,4 @@
--- For the code's proofs: no public contract needs it.
+-- Definition: `IsHeld`; the rest is for proofs.
 -- What a token keeps of its share of the seats, and of what disposals found.
 use Rattle.std.specs.Prelude.{◌≡◌, ℕ, ◌<◌, ◌≤◌, ◌^◌, true, List, length, slice_index, slice_set}
 use Rattle.pd_board.specs.declared.answers.Dispose.{Dispose}

@@ -18,6 +18,7 @@ pub(crate) struct Reads {
 }
 
 impl Reads {
+    /// Nothing was read.
     pub(crate) fn new() -> Reads
         ensures { result ≡ unread }
     {
