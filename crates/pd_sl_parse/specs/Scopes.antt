@@ -1,4 +1,5 @@
--- Twin of the code, for its proofs, but for `token_at` and `text_at`, which definitions use.
+-- Twin of the code, for its proofs, but for `token_at` and `text_at`, which definitions use. Of public contracts only
+-- those of `Scope` cite the rest, which no other crate uses.
 -- The variables of an SL function as they are kept while its nodes are passed in the order of its text. Places are numbers of tokens.
 -- A name is a variable from the end of the first assignment to it that has ended, up to the end of the block that it stands in.
 -- The rule in its own words is in Locals; what is kept here gives the same meanings.
