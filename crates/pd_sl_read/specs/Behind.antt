@@ -1,4 +1,4 @@
--- Twin of the code, for its proofs: no public contract needs it.
+-- Twin of the code, for its proofs. Of public contracts only that of `word_of` cites it, which no other crate uses.
 -- What the reader holds where the machine with trees is: the frames that are open, and the nodes of all its trees, each
 -- after its parts.
 use Rattle.std.specs.Prelude.{ℕ, ◌+◌, List, [], ◌∷◌, ◌++◌, Option, Some, None}

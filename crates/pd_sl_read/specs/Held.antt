@@ -1,4 +1,4 @@
--- Twin of the code, for its proofs: no public contract needs it.
+-- Twin of the code, for its proofs. Of public contracts only those of `Reader` cite it, which no other crate uses.
 -- What the reader holds, and what it does with a word.
 -- After `at` words it has a mode, the frames that are open, the innermost first, and the nodes so far, each after its
 -- parts.
