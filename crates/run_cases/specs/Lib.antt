@@ -1,3 +1,3 @@
--- For the proofs alone: no public contract cites it.
+-- For the program that runs the cases: no library's contract cites it.
 pub mod Answering
 pub mod Plans
