@@ -63,8 +63,8 @@ impl Model for Pass {
 }
 
 // The operations on a word follow. Each is a step of the kind that `J` names, and gives the word that it found; `a` and
-// `b` are the numbers of that kind, which no body reads. In the word of a binding 1 is "attached", 2 is "disposed", 4 is
-// "off", and its sum is the rest, so that 8 adds one to it.
+// `b` are the numbers of that kind, which no body reads. In the word of a binding 1 is "attached", 2 is "disposed", 4
+// is "off", and its sum is the rest, so that 8 adds one to it.
 
 // Loads the word.
 fn read<J: Doing>(words: &Words, seat: &mut Seat<u8, View>, word: usize, a: u32, b: u32) -> u64
