@@ -87,20 +87,28 @@ pub enum Keyword {
 /// What an expression is read for, with the first token of its statement or of its condition.
 #[derive(Clone, Copy, Drop)]
 pub enum Purpose {
+    /// The right side of an assignment to this variable.
     Assigned(u32, Meaning),
+    /// What `!` writes.
     Written(u32),
+    /// The operand of `odd`.
     Odd(u32),
+    /// The left side of a comparison.
     Left(u32),
+    /// The right side of this comparison.
     Right(u32, Operator),
 }
 
-/// What is open and nests: parentheses, a `begin` with the number of its whole statements so far,
-/// an `if` or `while`, each with its first token, or the block of a procedure.
+/// What is open and nests.
 #[derive(Clone, Copy, Drop)]
 pub enum Frame {
+    /// A `(`, with what waits around it.
     Parens(Levels),
+    /// A `begin`: its first token, and the number of its whole statements so far.
     Sequence(u32, u32),
+    /// An `if` or `while`, with its first token.
     Heading(Keyword, u32),
+    /// The block of a procedure.
     Procedure,
 }
 
