@@ -1,4 +1,5 @@
--- Definition: what the answers of a board's calls say of one binding.
+-- Definition, which public contracts cite.
+-- What the answers of a board's calls say of one binding.
 use Rattle.std.specs.Prelude.{ℕ, ◌<◌, ◌≤◌, ◌==◌, ◌&&◌, Bool, true, false, if◌then◌else◌, List, Option, Some, None}
 use Rattle.std.specs.Option.{ForSome}
 use Rattle.std.specs.List.{All, list_any}

@@ -1,4 +1,5 @@
--- Definition: the first number from some number on.
+-- Definition, which public contracts cite.
+-- The first number from some number on.
 use Rattle.std.specs.Prelude.{◌≡◌, ℕ, ◌<◌, ◌≤◌, Bool, true, false}
 use Rattle.std.specs.Int.{bit_at}
 

@@ -1,4 +1,5 @@
--- Definition: which bindings a chain has.
+-- Definition, which public contracts cite.
+-- Which bindings a chain has.
 use Rattle.std.specs.Prelude.{ℕ, ◌/◌, ◌%◌, ◌==◌, Bool, slice_index}
 use Rattle.std.specs.Int.{bit_at}
 use Rattle.pd_board.specs.declared.chain.Chain.{Chain}

@@ -1,4 +1,5 @@
--- Definition: what the lists of a board say of one binding's life, where no other thread steps on its words.
+-- Definition, which public contracts cite.
+-- What the lists of a board say of one binding's life, where no other thread steps on its words.
 use Rattle.std.specs.Prelude.{◌≡◌, ℕ, zero, suc, ◌+◌, ◌<◌, ◌≤◌, ◌==◌, ◌&&◌, ◌||◌, not, nat_le, take, Bool, true, false, if◌then◌else◌, List, [], ◌∷◌, ◌++◌, length, slice_index_or, count_by, Option, Some, None}
 use Rattle.std.specs.List.{All, filter_map, fold}
 use Rattle.std.specs.Option.{ForSome}

@@ -1,4 +1,5 @@
--- Definition: where a board of one thread stands, and what it keeps.
+-- Definition, which public contracts cite.
+-- Where a board of one thread stands, and what it keeps.
 use Rattle.std.specs.Prelude.{◌-◌, true, if◌then◌else◌, length, slice_index}
 use Rattle.pd_board.specs.declared.plain.PlainBoard.{PlainBoard}
 use Rattle.pd_board.specs.Chain.{has}

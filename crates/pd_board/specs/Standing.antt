@@ -1,4 +1,5 @@
--- Definition: where a board stands: all that the clauses of its calls speak of.
+-- Definition, which public contracts cite.
+-- Where a board stands: all that the clauses of its calls speak of.
 use Rattle.std.specs.Prelude.{◌≡◌, ℕ, ◌==◌, Bool, true, false, List, [], length, slice_index_or, ◌-◌, ◌^◌, Option, None}
 use Rattle.std.specs.List.{list_any}
 use Rattle.pd_plan.specs.declared.table.MatchTable.{MatchTable}

@@ -1,5 +1,4 @@
--- Definition: how a program is kept: additions, and beside each its place, with its parts and the variables that it
--- sees as stretches of two lists.
+-- How a program is kept: additions, and beside each its place, with its parts and the variables that it sees as stretches of two lists.
 use Rattle.std.specs.Prelude.{◌≡◌, ℕ, ◌+◌, ◌<◌, ◌≤◌, ◌^◌, false, List, [], ◌∷◌, length, take, drop, slice_index_or, Option}
 use Rattle.pd_tree.specs.declared.kind.Visible.{Visible}
 use Rattle.pd_tree.specs.declared.kind.Meaning.TheVariants.{Nothing}
@@ -9,11 +8,9 @@ use Rattle.pd_tree.specs.declared.place.Span.{Span}
 use Rattle.pd_tree.specs.Program.{Program, Node, Item}
 use Rattle.pd_tree.specs.Kinds.{tags_of}
 
--- the items of a stretch
 abbrev pub stretch : {T : Type 0} → Span → List T → List T
 stretch s items = take s.len (drop s.from items)
 
--- the node that an addition and its place keep
 abbrev pub node_in : List ℕ → List Visible → Addition → Place → Node
 node_in parts variables a place = record {
   kind = a.kind;
@@ -31,21 +28,17 @@ node_in parts variables a place = record {
   column = a.column;
 }
 
--- the nodes that the additions and their places keep
 abbrev pub nodes_in : List ℕ → List Visible → List Addition → List Place → List Node
 nodes_in parts variables (a ∷ rest) (place ∷ places) = node_in parts variables a place ∷ nodes_in parts variables rest places
 nodes_in parts variables _ _ = []
 
--- the items that the names and the roots keep
 abbrev pub items_in : List (List ℕ) → List (Option ℕ) → List Item
 items_in (name ∷ names) (root ∷ roots) = record { name = name; root = root } ∷ items_in names roots
 items_in _ _ = []
 
--- what stands for the place of a node that isn't there
 abbrev pub no_place : Place
 no_place = record { parts = record { from = 0; len = 0 }; sees = record { from = 0; len = 0 }; meaning = Nothing; stands = false; root = 0; level = 0; slots = 0 }
 
--- the stretches of a place lie within the two lists
 pub record IsWithin (parts : List ℕ) (variables : List Visible) (place : Place) : Type 0 where
   pub parts_within : place.parts.from + place.parts.len ≤ length parts
   pub sees_within : place.sees.from + place.sees.len ≤ length variables
@@ -75,7 +68,6 @@ pub record IsAdditionOf (node : Node) (a : Addition) : Type 0 where
   pub line : a.line ≡ node.line
   pub column : a.column ≡ node.column
 
--- the place keeps what the node has beside its addition
 pub record IsPlaceOf (node : Node) (place : Place) : Type 0 where
   pub tags : tags_of node.kind place.meaning place.stands ≡ node.tags
   pub meaning : place.meaning ≡ node.meaning
