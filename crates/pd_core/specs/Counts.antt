@@ -1,4 +1,5 @@
--- Definition: sums over lists and over the numbers below one, and how often a number stands in a list.
+-- Definition, which public contracts cite.
+-- Sums over lists and over the numbers below one, and how often a number stands in a list.
 use Rattle.std.specs.Prelude.{ℕ, zero, suc, ◌+◌, ◌*◌, List, [], ◌∷◌, eqb, ltb, cond, Bool, true, false}
 
 -- the weights of all, added up

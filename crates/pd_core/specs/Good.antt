@@ -1,4 +1,5 @@
--- Definition: the rule, that is, what holds between any two steps, of the words and of all views.
+-- Definition, which public contracts cite.
+-- The rule: what holds between any two steps, of the words and of all views.
 use Rattle.std.specs.Prelude.{◌≡◌, ◌⊎◌, ℕ, ◌+◌, ◌/◌, ◌<◌, ◌≤◌, ◌^◌, List, ◌++◌, map, length, replicate, slice_index, Option, Some, None, Bool, true, false, not}
 use mathlib.Core.Option.{some}
 use lib.ListN.{get_elem?}

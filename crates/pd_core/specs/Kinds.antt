@@ -1,5 +1,6 @@
--- Definition: the kinds of step: the word of each, what it makes of it, when a view may take it, and what the view is
--- then. The sixteenth kind, a split or a join, is in Runs.
+-- Definition, which public contracts cite.
+-- The kinds of step: the word of each, what it makes of it, when a view may take it, and what the view is then.
+-- The sixteenth kind, a split or a join, is in Runs.
 use Rattle.std.specs.Prelude.{◌≡◌, ℕ, ◌+◌, ◌/◌, ◌%◌, ◌<◌, ◌≤◌, ◌^◌, List, length, slice_index, slice_set, true, false}
 use mathlib.Core.Option.{some}
 use lib.ListN.{get_elem?}

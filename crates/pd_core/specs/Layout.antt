@@ -1,4 +1,5 @@
--- Definition: which nodes each binding matches, and where the words lie.
+-- Definition, which public contracts cite.
+-- Which nodes each binding matches, and where the words lie.
 use Rattle.std.specs.declared.vec.Vec.{Vec}
 use Rattle.std.specs.declared.alloc.Global.{Global}
 use Rattle.std.specs.Prelude.{◌≡◌, ℕ, ◌+◌, ◌*◌, ◌/◌, ◌<◌, ◌≤◌, List, [], map, length, slice_index, slice_index_or}

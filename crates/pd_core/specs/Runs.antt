@@ -1,4 +1,5 @@
--- Definition: lists of steps by any passes, from the opening state.
+-- Definition, which public contracts cite.
+-- Lists of steps by any passes, from the opening state.
 use Rattle.std.specs.Prelude.{◌≡◌, ℕ, ◌<◌, ◌≤◌, List, [], ◌∷◌, ◌++◌, replicate, slice_set}
 use mathlib.Core.Option.{some}
 use lib.ListN.{get_elem?}

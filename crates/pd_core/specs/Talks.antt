@@ -1,4 +1,5 @@
--- Definition: what a view knows of answers and ends, and the part of the rule on them.
+-- Definition, which public contracts cite.
+-- What a view knows of answers and ends, and the part of the rule on them.
 use Rattle.std.specs.Prelude.{◌≡◌, ℕ, ◌+◌, ◌-◌, ◌<◌, ◌≤◌, ◌^◌, List, [], ◌∷◌, ◌++◌, length, true, false}
 use mathlib.Core.Option.{some}
 use lib.ListN.{get_elem?}

@@ -1,4 +1,5 @@
--- Definition: what a view knows, and what each step makes of it.
+-- Definition, which public contracts cite.
+-- What a view knows, and what each step makes of it.
 use Rattle.std.specs.Prelude.{◌≡◌, ℕ, zero, suc, ◌+◌, ◌-◌, ◌*◌, ◌/◌, ◌%◌, ◌^◌, List, [], ◌∷◌, ◌++◌, length, eqb, ltb, cond, not, Bool, true, false, ◌==◌, ◌&&◌, Option, Some, None}
 use Rattle.pd_core.specs.declared.view.View.{View}
 use Rattle.pd_core.specs.declared.view.Sight.{Sight}

@@ -1,6 +1,6 @@
--- Definition: what a word says. A node's row word has a bit for each of 64 bindings, and its summary word a bit for
--- each row word. A binding's word is 8 times its sum, and 1 more where it is attached, 2 more where it is disposed, and
--- 4 more where it is off.
+-- Definition, which public contracts cite.
+-- What a word says. A node's row word has a bit for each of 64 bindings, and its summary word a bit for each row word.
+-- A binding's word is 8 times its sum, and 1 more where it is attached, 2 more where it is disposed, and 4 more where it is off.
 use Rattle.std.specs.Prelude.{◌≡◌, ℕ, ◌+◌, ◌*◌, ◌/◌, ◌%◌, ◌^◌, Bool, ◌&&◌, ◌==◌, List, slice_index, bit_and, bit_or}
 use Rattle.pd_core.specs.Layout.{Layout, row_at}
 use Rattle.std.specs.Int.{bit_at, bit_not, w64}
