@@ -95,7 +95,6 @@ pub fn next_part(
     }
 }
 
-/// The part at place `i`, counted from 0, if there is one.
 fn part_at(parts: &[NodeId], i: usize) -> Option<NodeId>
     ensures part { result ≡ slice_get parts.now i }
     ensures bound { IsSome result → i < length parts.now }
