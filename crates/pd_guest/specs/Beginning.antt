@@ -1,4 +1,5 @@
--- Definition: a context that begins, and one that is over.
+-- Definition, which public contracts cite.
+-- A context that begins, and one that is over.
 use Rattle.std.specs.Prelude.{◌≡◌, ℕ, ◌≤◌, ◌<◌, ◌^◌, Bool, true, false, [], length, slice_get, Option, None, Some}
 use Rattle.std.specs.List.{list_all}
 use Rattle.pd_tree.specs.Program.{Program}
