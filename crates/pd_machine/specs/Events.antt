@@ -1,4 +1,5 @@
--- Definition: the state of a run, and the events that it tells, each with the frames at that moment.
+-- Definition, which public contracts cite.
+-- The state of a run, and the events that it tells, each with the frames at that moment.
 use Rattle.pd_machine.specs.declared.run.Home.{Home}
 use Rattle.pd_machine.specs.declared.run.Home.TheVariants.{InFrame, InMain}
 use Rattle.pd_machine.specs.declared.run.Frame.{Frame}

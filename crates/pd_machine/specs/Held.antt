@@ -1,4 +1,5 @@
--- Definition: a machine as its fields, without the events that it has told, which a watcher has.
+-- Definition, which public contracts cite.
+-- A machine as its fields, without the events that it has told, which a watcher has.
 use Rattle.std.specs.Prelude.{ℕ, List, []}
 use Rattle.pd_values.specs.declared.value.Value.{Value}
 use Rattle.pd_machine.specs.declared.run.Frame.{Frame}
