@@ -1,4 +1,5 @@
--- Definition: what a token keeps in memory, beside the view of its pass.
+-- Definition, which public contracts cite.
+-- What a token keeps in memory, beside the view of its pass.
 use Rattle.std.specs.Prelude.{ℕ, Bool, List, slice_index_or}
 use Rattle.pd_board.specs.declared.answers.Known.{Known}
 use Rattle.pd_board.specs.declared.answers.Known.TheVariants as knowns

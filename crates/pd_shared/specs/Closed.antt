@@ -1,4 +1,5 @@
--- Definition: what the tally of a board says, by all seats that were on it.
+-- Definition, which public contracts cite.
+-- What the tally of a board says, by all seats that were on it.
 use Rattle.std.specs.Prelude.{◌≡◌, ℕ, ◌+◌, ◌<◌, ◌≤◌, ◌^◌, ◌==◌, ◌&&◌, nat_lt, Bool, true, false, if◌then◌else◌, List, [], ◌∷◌, ◌++◌, length, slice_index, slice_index_or, count_by}
 use Rattle.std.specs.List.{All, filter_map}
 use Rattle.std.specs.Option.{ForSome}

@@ -1,4 +1,5 @@
--- Definition: what a seat keeps of its draws, passes and acts.
+-- Definition, which public contracts cite.
+-- What a seat keeps of its draws, passes and acts.
 use Rattle.std.specs.Prelude.{ℕ, List, []}
 use Rattle.pd_board.specs.declared.answers.ActResult.{ActResult}
 use Rattle.pd_board.specs.declared.answers.Sight.{Sight}

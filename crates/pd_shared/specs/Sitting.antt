@@ -1,4 +1,5 @@
--- Definition: where a seat stands.
+-- Definition, which public contracts cite.
+-- Where a seat stands.
 use Rattle.std.specs.Prelude.{◌≡◌, ℕ, ◌==◌, if◌then◌else◌, slice_index, Option, Some, None}
 use Rattle.std.specs.List.{filter_map}
 use Rattle.pd_plan.specs.declared.table.MatchTable.{MatchTable}

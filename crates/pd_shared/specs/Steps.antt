@@ -1,4 +1,5 @@
--- Definition: the steps of each call of a seat, and how many they are.
+-- Definition, which public contracts cite.
+-- The steps of each call of a seat, and how many they are.
 use Rattle.std.specs.Prelude.{◌≡◌, ℕ, zero, suc, ◌+◌, ◌*◌, ◌/◌, ◌≤◌, ◌==◌, Bool, true, false, if◌then◌else◌, List, [], ◌∷◌, length, slice_index}
 use Rattle.pd_board.specs.declared.answers.Known.{Known}
 use Rattle.pd_board.specs.declared.answers.Drawn.{Drawn}
@@ -81,14 +82,12 @@ pub data EventCall : Type 0 where
   passes : EventCall
   disposes : ℕ → EventCall
 
--- the steps of this call lead from the view `v` to `next`
 abbrev pub DoesCall : Layout → EventCall → View → View → Type 0
 DoesCall p (draws event b) v next = (drawn : Drawn) × (later : Known) × DrawSteps p event b v next drawn later
 DoesCall p (sweeps n b) v next = TookOne p (clear_bit n b) v next
 DoesCall p passes v next = next ≡ v
 DoesCall p (disposes b) v next = TookOne p (set_disposed b) v next
 
--- the steps of these calls, one after another, lead from the view `v` to `next`
 abbrev pub DoesCalls : Layout → List EventCall → View → View → Type 0
 DoesCalls p [] v next = next ≡ v
 DoesCalls p (x ∷ xs) v next = (m : View) × DoesCall p x v m × DoesCalls p xs m next

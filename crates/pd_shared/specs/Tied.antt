@@ -1,4 +1,5 @@
--- Definition: how what a token keeps in memory goes with the view of its pass.
+-- Definition, which public contracts cite.
+-- How what a token keeps in memory goes with the view of its pass.
 use Rattle.std.specs.Prelude.{◌≡◌, ℕ, ◌<◌, ◌≤◌, ◌==◌, ◌&&◌, ◌^◌, eqb, Bool, true, false, if◌then◌else◌, List, [], ◌∷◌, length, slice_index, map, Option, Some, None}
 use Rattle.std.specs.List.{filter_map}
 use Rattle.std.specs.Bool.{beq}

@@ -1,4 +1,5 @@
--- Definition: the steps that a call took, as its view tells.
+-- Definition, which public contracts cite.
+-- The steps that a call took, as its view tells.
 use Rattle.std.specs.Prelude.{◌≡◌, ℕ, ◌/◌, ◌%◌, List, ◌==◌, Bool, true, false, if◌then◌else◌}
 use Rattle.pd_core.specs.declared.view.View.{View}
 use Rattle.pd_plan.specs.declared.table.MatchTable.{MatchTable}
