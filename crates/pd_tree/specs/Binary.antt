@@ -1,4 +1,5 @@
--- Definition: what each operator with two operands gives.
+-- Definition, which public contracts cite.
+-- What each operator with two operands gives.
 use Rattle.std.specs.Prelude.{ℕ, Bool, not, List, Result, Ok, Err}
 use Rattle.pd_values.specs.declared.value.Value.{Value}
 use Rattle.pd_values.specs.declared.value.Value.TheVariants.{Bool as Truth}

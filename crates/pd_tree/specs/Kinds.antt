@@ -1,4 +1,5 @@
--- Definition: the tables of kinds: how many parts a node of each kind has, and which tags.
+-- Definition, which public contracts cite.
+-- The tables of kinds: how many parts a node of each kind has, and which tags.
 use Rattle.std.specs.Prelude.{◌≡◌, ℕ, ◌≤◌, ◌⊎◌, Bool, true, false, if◌then◌else◌, List, [], ◌∷◌, ◌++◌}
 use Rattle.pd_values.specs.declared.value.Tag.{Tag}
 use Rattle.pd_values.specs.declared.value.Tag.TheVariants.{Statement, Call, Root, RootBody, Expression, ReadVariable, WriteVariable, AlwaysHalt}

@@ -1,6 +1,6 @@
--- Definition: the linked program of a list of additions: the nodes with their numbers, parts, tags, roots and
--- variables, and the items. Additions come in the order of the nodes' numbers, each with the number of its parts, and a
--- node's parts follow it from left to right.
+-- Definition, which public contracts cite.
+-- The linked program of a list of additions: the nodes with their numbers, parts, tags, roots and variables, and the items.
+-- Additions come in the order of the nodes' numbers, each with the number of its parts, and a node's parts follow it from left to right.
 use Rattle.std.specs.Prelude.{ℕ, zero, suc, ◌+◌, ◌-◌, ◌^◌, ◌<◌, ◌≤◌, max, Bool, true, false, if◌then◌else◌, nat_lt, ◌==◌, ◌||◌, IsTrue, List, [], ◌∷◌, ◌++◌, length, take, drop, slice_index_or, Option, None, Some, bytes_eq, codes}
 use Rattle.pd_tree.specs.declared.kind.Kind.{Kind}
 use Rattle.pd_tree.specs.declared.kind.Kind.TheVariants.{SlFunction, SlBlock, SlAssign, PlProcedure, PlEmpty}

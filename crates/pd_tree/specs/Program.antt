@@ -1,4 +1,5 @@
--- Definition: a program as plain lists: its nodes by number, its items by number, and the main block of each source.
+-- Definition, which public contracts cite.
+-- A program as plain lists: its nodes by number, its items by number, and the main block of each source.
 use Rattle.std.specs.Prelude.{ℕ, Bool, false, ◌||◌, List, [], ◌∷◌, map, slice_index_or, Option, None}
 use Rattle.pd_values.specs.declared.value.Tag.{Tag}
 use Rattle.pd_values.specs.declared.value.Tag.TheVariants.{Statement, Call, Root, RootBody, Expression, ReadVariable, WriteVariable, AlwaysHalt}
