@@ -1,3 +1,4 @@
+-- Definition, which public contracts cite.
 -- What the answers of a board's calls say of one binding.
 use Rattle.std.specs.Prelude.{ℕ, ◌<◌, ◌≤◌, ◌==◌, ◌&&◌, Bool, true, false, if◌then◌else◌, List, Option, Some, None}
 use Rattle.std.specs.Option.{ForSome}
@@ -22,6 +23,7 @@ stage knowns.Fresh = 0
 stage knowns.Attached = 1
 stage knowns.Disposed = 2
 
+-- whether the binding is known as disposed
 abbrev pub is_gone : Known → Bool
 is_gone knowns.Disposed = true
 is_gone _ = false
@@ -49,7 +51,7 @@ NumbersBelow b n sights = All (λ s. ForSome (number_in b s) (λ p. p < n)) sigh
 
 -- ---- answers of acts
 
--- it answers an attach, or a dispose, of the binding
+-- whether the answer is one of an attach of b
 abbrev pub is_attach : ℕ → ActResult → Bool
 is_attach b (acts.Attached c _) = c == b
 is_attach b _ = false
@@ -59,10 +61,12 @@ abbrev pub is_attached : Attach → Bool
 is_attached attaches.Attached = true
 is_attached _ = false
 
+-- whether the answer is one of an attach of b that attached it
 abbrev pub is_attachment : ℕ → ActResult → Bool
 is_attachment b (acts.Attached c a) = c == b && is_attached a
 is_attachment b _ = false
 
+-- whether the answer is one of a dispose of b, also where b had been disposed before
 abbrev pub is_dispose : ℕ → ActResult → Bool
 is_dispose b (acts.Disposed c _) = c == b
 is_dispose b _ = false
@@ -72,6 +76,7 @@ abbrev pub disposal : ℕ → ActResult → Option ℕ
 disposal b (acts.Disposed c (disposes.Disposed n)) = if c == b then Some n else None
 disposal b _ = None
 
+-- whether the answer is one of the dispose that disposed b
 abbrev pub is_disposal : ℕ → ActResult → Bool
 is_disposal b (acts.Disposed c (disposes.Disposed n)) = c == b
 is_disposal b _ = false
@@ -82,16 +87,19 @@ toggle_count b (acts.Enabled c (toggles.At n)) = if c == b then Some n else None
 toggle_count b (acts.Disabled c (toggles.At n)) = if c == b then Some n else None
 toggle_count b _ = None
 
--- the list has an answer of an attach, of the attach that attached it, of a dispose, or of the dispose that disposed it
+-- whether one of the answers is that of an attach of b
 abbrev pub has_attach : ℕ → List ActResult → Bool
 has_attach b replies = list_any (is_attach b) replies
 
+-- whether one of the answers says that b was attached by its act
 abbrev pub has_attachment : ℕ → List ActResult → Bool
 has_attachment b replies = list_any (is_attachment b) replies
 
+-- whether one of the answers is that of a dispose of b
 abbrev pub has_dispose : ℕ → List ActResult → Bool
 has_dispose b replies = list_any (is_dispose b) replies
 
+-- whether one of the answers says that b was disposed by its act
 abbrev pub has_disposal : ℕ → List ActResult → Bool
 has_disposal b replies = list_any (is_disposal b) replies
 

@@ -1,3 +1,4 @@
+-- Definition, which public contracts cite.
 -- The first number from some number on.
 use Rattle.std.specs.Prelude.{◌≡◌, ℕ, ◌<◌, ◌≤◌, Bool, true, false}
 use Rattle.std.specs.Int.{bit_at}

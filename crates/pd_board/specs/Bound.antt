@@ -1,3 +1,4 @@
+-- `IsWithin` is a definition, which a contract cites; the rest is for proofs.
 -- How the bits of nodes go with the rows of bindings and with their lives.
 use Rattle.std.specs.Prelude.{◌≡◌, ℕ, ◌<◌, true, List, [], slice_index_or}
 use Rattle.std.specs.List.{All}

@@ -1,3 +1,4 @@
+-- Definition, which public contracts cite.
 -- Which bindings a chain has.
 use Rattle.std.specs.Prelude.{ℕ, ◌/◌, ◌%◌, ◌==◌, Bool, slice_index}
 use Rattle.std.specs.Int.{bit_at}

@@ -1,3 +1,4 @@
+-- For the code's proofs: no public contract needs it.
 -- What a board keeps of its draws, passes and acts.
 use Rattle.std.specs.Prelude.{ℕ, List, []}
 use Rattle.pd_board.specs.declared.answers.ActResult.{ActResult}
@@ -13,5 +14,6 @@ pub record Entries : Type 0 where
   pub replies : List ActResult
   pub spare : ℕ
 
+-- nothing is kept, and there is room for nothing
 abbrev pub empty : Entries
 empty = record { sights = []; sight_loads = []; passes = []; replies = []; spare = 0 }

@@ -1,3 +1,4 @@
+-- Definition, which public contracts cite.
 -- What the lists of a board say of one binding's life, where no other thread steps on its words.
 use Rattle.std.specs.Prelude.{◌≡◌, ℕ, zero, suc, ◌+◌, ◌<◌, ◌≤◌, ◌==◌, ◌&&◌, ◌||◌, not, nat_le, take, Bool, true, false, if◌then◌else◌, List, [], ◌∷◌, ◌++◌, length, slice_index_or, count_by, Option, Some, None}
 use Rattle.std.specs.List.{All, filter_map, fold}
@@ -26,11 +27,12 @@ upto (suc n) = upto n ++ n ∷ []
 abbrev pub numbers_of : ℕ → List Sight → List ℕ
 numbers_of b sights = filter_map (number_in b) sights
 
--- it switched the binding off, or on, with a count of at most n
+-- whether the answer is one of a disable of b that changed it, with a count of at most n
 abbrev pub disables_upto : ℕ → ℕ → ActResult → Bool
 disables_upto b n (acts.Disabled c (toggles.At m)) = c == b && nat_le m n
 disables_upto b n _ = false
 
+-- whether the answer is one of an enable of b that changed it, with a count of at most n
 abbrev pub enables_upto : ℕ → ℕ → ActResult → Bool
 enables_upto b n (acts.Enabled c (toggles.At m)) = c == b && nat_le m n
 enables_upto b n _ = false
@@ -39,11 +41,12 @@ enables_upto b n _ = false
 abbrev pub IsMissed : ℕ → ℕ → Bool → List ActResult → Type 0
 IsMissed b n missed replies = count_by (disables_upto b n) replies ≡ count_by (enables_upto b n) replies + (if missed then 1 else 0)
 
--- the number of a draw, where it is the place of an entry, and where it is missed
+-- the number that a draw gave where it is the place of an entry
 abbrev pub place_of : Drawn → Option ℕ
 place_of (drawns.On p) = Some p
 place_of _ = None
 
+-- the number that a draw gave where it gave no entry
 abbrev pub missed_of : Drawn → Option ℕ
 missed_of (drawns.Missed p) = Some p
 missed_of _ = None
@@ -59,12 +62,13 @@ pub record FitsToggles (b : ℕ) (replies : List ActResult) (s : Sight) : Type 0
 abbrev pub EachAfter : {X : Type 0} → (List X → X → Type 0) → List X → Type 0
 EachAfter {X} P xs = (k : ℕ) (d : X) → k < length xs → P (take k xs) (slice_index_or xs k d)
 
--- whether the binding is switched off after these answers
+-- whether b is switched off after one more answer, where it was so before or not
 abbrev pub off_by : ℕ → Bool → ActResult → Bool
 off_by b off (acts.Disabled c (toggles.At n)) = if c == b then true else off
 off_by b off (acts.Enabled c (toggles.At n)) = if c == b then false else off
 off_by b off _ = off
 
+-- whether b is switched off after these answers
 abbrev pub last_off : ℕ → List ActResult → Bool
 last_off b replies = fold (off_by b) false replies
 
@@ -92,6 +96,7 @@ follows b before (acts.Disposed c a) = not (c == b) || dispose_follows (has_disp
 follows b before (acts.Enabled c a) = not (c == b) || switch_follows (has_dispose b before) (not (last_off b before)) a
 follows b before (acts.Disabled c a) = not (c == b) || switch_follows (has_dispose b before) (last_off b before) a
 
+-- r is an answer that an act on b may get after these answers
 abbrev pub IsAnswer : ℕ → List ActResult → ActResult → Type 0
 IsAnswer b before r = follows b before r ≡ true
 
@@ -122,9 +127,10 @@ pub record Tells (b : ℕ) (s : Life) (sights : List Sight) (replies : List ActR
   pub switched : last_off b replies ≡ s.off
   pub history : EachAfter (IsAnswer b) replies
 
--- the life of a binding, and that the lists tell each
+-- the life of binding b; untouched where there is none
 abbrev pub life_at : List Life → ℕ → Life
 life_at lives b = slice_index_or lives b untouched
 
+-- the lists tell the life of each binding
 abbrev pub TellsAll : List Life → List Sight → List ActResult → Type 0
 TellsAll lives sights replies = (b : ℕ) → b < length lives → Tells b (life_at lives b) sights replies

@@ -1,3 +1,6 @@
+-- Definitions, which public contracts cite: Bits, Chain, Answers, Standing, Kept, Bound, Plain and Tally.
+-- For the proofs, but for a few words that `standing_of` uses: NodeBits, Life, Journal and Sessions.
+-- For the tests: Examples.
 pub mod Bits
 pub mod Chain
 pub mod Answers

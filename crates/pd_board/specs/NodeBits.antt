@@ -1,3 +1,4 @@
+-- For the code's proofs: no public contract needs it.
 -- The bits that nodes have.
 use Rattle.std.specs.Prelude.{◌≡◌, ℕ, ◌+◌, ◌*◌, ◌/◌, ◌%◌, ◌==◌, ◌&&◌, nat_lt, Bool, List, slice_index}
 use Rattle.std.specs.Int.{bit_at}
@@ -7,6 +8,7 @@ use Rattle.pd_board.specs.declared.bits.NodeBits.{NodeBits}
 abbrev pub stands_in : ℕ → List ℕ → ℕ → ℕ → Bool
 stands_in width words n b = nat_lt (b / 64) width && bit_at (slice_index words (n * width + b / 64)) (b % 64) == 1
 
+-- whether the bit of binding b at node n is set
 unfoldable pub stands : NodeBits → ℕ → ℕ → Bool
 stands t n b = stands_in t.width t.words.items n b
 

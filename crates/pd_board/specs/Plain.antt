@@ -1,3 +1,4 @@
+-- Definition, which public contracts cite.
 -- Where a board of one thread stands, and what it keeps.
 use Rattle.std.specs.Prelude.{◌-◌, true, if◌then◌else◌, length, slice_index}
 use Rattle.pd_board.specs.declared.plain.PlainBoard.{PlainBoard}
@@ -7,6 +8,7 @@ use Rattle.pd_board.specs.Kept.{life_at, upto}
 use Rattle.pd_board.specs.Standing.{Standing, most_counted}
 use Rattle.pd_board.specs.Sessions.{word_at}
 
+-- where the board stands, by its fields
 abbrev pub standing_of : PlainBoard → Standing
 standing_of p = record {
   table = p.table;

@@ -1,12 +1,15 @@
+-- `unread` and `word_at` are definitions, which `standing_of` uses; the rest is for proofs.
 -- The words of the sessions on a board of one thread.
 use Rattle.std.specs.Prelude.{ℕ, ◌+◌, ◌≤◌, ◌^◌, List, slice_index_or}
 use Rattle.pd_board.specs.declared.session.SessionWord.{SessionWord}
 use Rattle.pd_board.specs.declared.life.Life.{Life}
 use Rattle.pd_board.specs.Kept.{life_at}
 
+-- the word of a session of which nothing was taken or read
 abbrev pub unread : SessionWord
 unread = record { taken = 0; loads = 0; last = 0 }
 
+-- the word of session s; `unread` for a session that the board doesn't have
 abbrev pub word_at : List SessionWord → ℕ → SessionWord
 word_at words s = slice_index_or words s unread
 

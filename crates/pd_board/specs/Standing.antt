@@ -1,3 +1,4 @@
+-- Definition, which public contracts cite.
 -- Where a board stands: all that the clauses of its calls speak of.
 use Rattle.std.specs.Prelude.{◌≡◌, ℕ, ◌==◌, Bool, true, false, List, [], length, slice_index_or, ◌-◌, ◌^◌, Option, None}
 use Rattle.std.specs.List.{list_any}
@@ -13,6 +14,7 @@ use Rattle.pd_board.specs.Answers.{has_disposal}
 abbrev pub in_row : MatchTable → ℕ → ℕ → Bool
 in_row table b n = list_any (λ m. m == n) (slice_index_or table.rows b [])
 
+-- all that the clauses of a board's calls speak of
 pub record Standing : Type 0 where
   -- what no call changes: for each binding its row of nodes and whether it is always drawn; the numbers of nodes, of
   -- sessions and of contexts; and whether no other board ever stepped on its words
@@ -54,15 +56,19 @@ pub record Standing : Type 0 where
   pub held : ℕ → Bool
   pub due : ℕ → Bool
 
+-- the number of bindings
 abbrev pub bindings : Standing → ℕ
 bindings s = length s.table.rows
 
+-- whether node n stands in the row of binding b
 abbrev pub matches : Standing → ℕ → ℕ → Bool
 matches s b n = in_row s.table b n
 
+-- whether binding b is drawn each time that a load holds it; one with a condition may be passed instead
 abbrev pub always_drawn : Standing → ℕ → Bool
 always_drawn s b = slice_index_or s.table.always b false
 
+-- no binding of the last load has still to be drawn, passed or swept
 abbrev pub NothingDue : Standing → Type 0
 NothingDue s = (b : ℕ) → s.due b ≡ false
 
@@ -70,10 +76,11 @@ NothingDue s = (b : ℕ) → s.due b ≡ false
 abbrev pub KnowsByItself : Standing → Type 0
 KnowsByItself s = s.alone ≡ true → (b : ℕ) → s.known b ≡ knowns.Disposed → has_disposal b s.replies ≡ true
 
--- how many numbers of all bindings together can be drawn, and how many answers of a session and how many ends there can be
+-- how many numbers of all bindings together can be drawn
 abbrev pub most_draws : ℕ
 most_draws = 2 ^ 60
 
+-- how many answers of a session, and how many ends, there can be
 abbrev pub most_counted : ℕ
 most_counted = 2 ^ 32 - 1
 

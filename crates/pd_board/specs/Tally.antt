@@ -1,3 +1,4 @@
+-- Definition, which public contracts cite.
 -- What a board of one thread tells of each binding and of each session.
 use Rattle.std.specs.Prelude.{◌≡◌, ℕ, ◌<◌, ◌≤◌, Bool, true, false, if◌then◌else◌, List, length, slice_index, slice_index_or}
 use Rattle.std.specs.List.{All}
@@ -34,6 +35,7 @@ pub record IsOutcome (b : ℕ) (sights : List Sight) (replies : List ActResult) 
   -- each answer of an act is the one that follows from those before it
   pub history : EachAfter (IsAnswer b) replies
 
+-- the tally of a binding to which nothing was done
 abbrev pub no_tally : BindingTally
 no_tally = record { state = states.Unattached; count = 0 }
 

@@ -22,7 +22,7 @@ pub(crate) struct NodeBits {
 impl NodeBits {
     ghost use Rattle.pd_board.specs.NodeBits.{stands, IsAlike};
 
-    /// No bit is set.
+    /// No bit is set. A plan has at most 4,096 bindings.
     pub(crate) fn new(alloc: Global, nodes: u32, bindings: usize) -> Result<NodeBits, AllocError>
         requires { bindings ≤ 4096 }
         ensures nodes { IfOk result (λ t. t.nodes ≡ nodes) }

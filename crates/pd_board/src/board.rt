@@ -11,15 +11,17 @@ use crate::chain::Chain;
 use pd_values::NodeId;
 use std::alloc::{AllocError, Global};
 
-/// What a context, or a session, steps with on the words of bindings, nodes and sessions.
+/// A board: the words of bindings, nodes and sessions, and the calls by which a context, or a session, steps on them.
 ///
 /// Bindings, nodes and sessions go by their numbers, which are ones of the board by condition. Each call but `reserve`
-/// takes no memory. What the clauses of a call don't name stays, as its clause `rest` says.
+/// takes no memory. What the clauses of a call don't name stays, as its clause `rest` says. The conditions `room` keep
+/// what a board counts in range: loads of nodes, of answers and of ended contexts below 2^32, cleared bits below 2^60.
 pub trait Board {
     /// Where the board stands.
     ghost standing: { Self → Standing };
 
-    /// Makes room for so many steps: draws, passes, acts and answers. Want of memory is free, and changes nothing.
+    /// Makes room for so many steps: draws, passes, acts and answers. Memory may run out at any call: then
+    /// `AllocError`, and nothing is changed.
     fn reserve(&mut self, alloc: Global, steps: u32) -> Result<(), AllocError>
         requires draws { steps ≤ (standing self.old).draw_share }
         requires answers { (s : ℕ) → s < (standing self.old).sessions → steps ≤ (standing self.old).answer_share s }
@@ -27,9 +29,9 @@ pub trait Board {
         ensures err { OnErr result (standing self.new ≡ standing self.old) }
         ensures rest { standing self.new ≡ record (standing self.old) { spare = (standing self.new).spare } };
 
-    /// Loads the words of the node `n`: the bindings whose bits they had. A binding of the node that was known as
-    /// attached and has no bit there was disposed. All bindings of the answer are due: each is to be drawn, passed or
-    /// swept before the next load.
+    /// Loads the words of the node `n`, and gives the bindings whose bits they had. A binding of the node that was
+    /// known as attached and has no bit there was disposed. All bindings of the answer are due: each is to be drawn,
+    /// passed or swept before the next load.
     fn chain(&mut self, n: NodeId) -> Chain
         requires node { n < (standing self.old).nodes }
         requires open { (standing self.old).ended ≡ false }

@@ -39,7 +39,7 @@ impl Chain {
         };
     }
 
-    /// Takes a binding out, if it is there.
+    /// Takes a binding out, if it is there. A chain has room for 4,096 bindings.
     pub fn remove(&mut self, b: u32)
         requires { b < 4096 }
         ensures { (c : ℕ) → has self.new c ≡ (not (c == b) && has self.old c) }

@@ -28,6 +28,7 @@ impl Model for Journal {
 }
 
 impl Journal {
+    /// Nothing is kept, and there is room for nothing. It takes no memory.
     pub(crate) fn new(alloc: Global) -> Journal
         ensures { result ≡ empty }
     {

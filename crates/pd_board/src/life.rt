@@ -27,6 +27,7 @@ impl Life {
         }
     }
 
+    /// What the board knows of it.
     pub(crate) fn known(&self) -> Known
         ensures { result ≡ life.known self.now }
     {
@@ -39,6 +40,7 @@ impl Life {
         }
     }
 
+    /// Takes its next number, where it is attached and not disposed.
     pub(crate) fn draw(&mut self) -> Drawn
         requires { self.old.count + 1 < 2 ^ 64 }
         ensures answer { result ≡ life.drawn self.old }
@@ -56,6 +58,7 @@ impl Life {
         }
     }
 
+    /// Sets it attached, and says whether this was the first to do so.
     pub(crate) fn attach(&mut self) -> Attach
         ensures answer { result ≡ life.attached self.old }
         ensures after { self.new ≡ life.after_attach self.old }
@@ -71,6 +74,7 @@ impl Life {
         answer
     }
 
+    /// Sets it disposed, and says whether this was the first to do so.
     pub(crate) fn dispose(&mut self) -> Dispose
         ensures answer { result ≡ life.disposed self.old }
         ensures after { self.new ≡ life.after_dispose self.old }
@@ -101,6 +105,7 @@ impl Life {
         answer
     }
 
+    /// How it ends up, and how many numbers were drawn of it.
     pub(crate) fn tally(&self) -> BindingTally
         ensures { result ≡ life.tally_of self.now }
     {

@@ -79,6 +79,7 @@ impl PlainBoard {
             bits: NodeBits::new(alloc, nodes, count)?,
             lives,
             journal: Journal::new(alloc),
+            // The draws of the first seat of a shared board, so that both kinds of board begin alike.
             draws_left: 1 << 60,
             sessions: words,
             loads,

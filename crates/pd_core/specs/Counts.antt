@@ -1,3 +1,4 @@
+-- Definition, which public contracts cite.
 -- Sums over lists and over the numbers below one, and how often a number stands in a list.
 use Rattle.std.specs.Prelude.{ℕ, zero, suc, ◌+◌, ◌*◌, List, [], ◌∷◌, eqb, ltb, cond, Bool, true, false}
 
@@ -15,13 +16,15 @@ added f (suc n) = added f n + f n
 unfoldable pub same : ℕ → ℕ → ℕ
 same x y = cond (eqb x y) 1 0
 
+-- how often x stands in the list
 unfoldable pub times : ℕ → List ℕ → ℕ
 times x xs = total (same x) xs
 
--- 1 where the pair has this first number, and 1 where it has both of these
+-- 1 where the pair has this first number, and else 0
 unfoldable pub first_is : ℕ → ℕ × ℕ → ℕ
 first_is x p = same x p.0
 
+-- 1 where the pair is (x, y), and else 0
 unfoldable pub pair_is : ℕ → ℕ → ℕ × ℕ → ℕ
 pair_is x y p = same x p.0 * same y p.1
 

@@ -1,3 +1,4 @@
+-- Definition, which public contracts cite.
 -- The rule: what holds between any two steps, of the words and of all views.
 use Rattle.std.specs.Prelude.{◌≡◌, ◌⊎◌, ℕ, ◌+◌, ◌/◌, ◌<◌, ◌≤◌, ◌^◌, List, ◌++◌, map, length, replicate, slice_index, Option, Some, None, Bool, true, false, not}
 use mathlib.Core.Option.{some}
@@ -14,7 +15,7 @@ use Rattle.pd_core.specs.Talks.{Spoken}
 use Rattle.pd_core.specs.Views.{known, Known, fresh, found_disposed, past_in, IsHalf, over, of_all, drew_number, misses, did_turn, found_so, toggles_upto, toggles_from, toggles_at, number_in, makings, firsts, lates, disposals, count_kept, outcomes, spent_view, talk_of}
 
 -- The outcomes of the draws of a binding: first none, then numbers that rise and lie below the limit, then none again.
--- With a number the binding is not fresh, and with a none behind a number it is known as disposed
+-- With a number the binding is not fresh, and with a none after a number it is known as disposed
 pub record Wave (is : Known) (limit : ℕ) (outs : List (Option ℕ)) : Type 0 where
   pub before : ℕ
   pub drawn : List ℕ
@@ -116,6 +117,8 @@ pub record Counted (p : Layout) (words : List ℕ) (limit : ℕ → ℕ) (views 
   pub draws : total (λ v. v.draw_share) views + added (λ b. sum_in (binding_word p words b)) (bindings p) ≤ 2 ^ 60
   pub seats : total (λ v. v.seat_share) views ≡ 2 ^ 32
 
+-- the rule: the words have the layout, and there are limits such that words and views fit them, one by one and all
+-- together
 pub record Good (p : Layout) (words : List ℕ) (views : List View) : Type 0 where
   pub shape : IsSound p
   pub sized : length words ≡ words_in p

@@ -1,3 +1,4 @@
+-- Definition, which public contracts cite.
 -- The kinds of step: the word of each, what it makes of it, when a view may take it, and what the view is then.
 -- The sixteenth kind, a split or a join, is in Runs.
 use Rattle.std.specs.Prelude.{◌≡◌, ℕ, ◌+◌, ◌/◌, ◌%◌, ◌<◌, ◌≤◌, ◌^◌, List, length, slice_index, slice_set, true, false}
@@ -11,6 +12,7 @@ use Rattle.pd_core.specs.Talks.{answer_share, answered, asked, ended_talk, count
 use Rattle.pd_core.specs.Views.{known, fresh, found_attached, found_disposed, past_of, IsHalf, IsNext, HasRow, loaded, row_loaded, summed, looked, drew, disposed_of, set_of, marked, swept, toggled, spoke, noted}
 use Rattle.pd_core.specs.Good.{Good}
 
+-- the kinds of step, each with the numbers that say on which word it steps
 pub data Kind : Type 0 where
   -- of a node
   load_node : ℕ → Kind
@@ -36,6 +38,7 @@ pub data Kind : Type 0 where
   set_off : ℕ → Kind
   clear_off : ℕ → Kind
 
+-- the number of the word on which a step of this kind steps
 abbrev pub word_of : Layout → Kind → ℕ
 word_of p (load_node n) = n
 word_of p (load_binding event b) = binding_at p b
@@ -53,6 +56,7 @@ word_of p (set_summary n r) = n
 word_of p (set_off b) = binding_at p b
 word_of p (clear_off b) = binding_at p b
 
+-- what a step of this kind makes of its word
 abbrev pub change_of : Kind → Change
 change_of (load_node n) = reads
 change_of (load_binding event b) = reads
@@ -124,6 +128,7 @@ Bounded (set_summary n r) v = Unit {0}
 Bounded (set_off b) v = Unit {0}
 Bounded (clear_off b) v = Unit {0}
 
+-- the condition on a step: its numbers are in range, what the view knows allows it, and the view has room for it
 abbrev pub May : Layout → Kind → View → Type 0
 May p k v = InRange p k × Condition p k v × Bounded k v
 

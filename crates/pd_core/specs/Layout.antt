@@ -1,3 +1,4 @@
+-- Definition, which public contracts cite.
 -- Which nodes each binding matches, and where the words lie.
 use Rattle.std.specs.declared.vec.Vec.{Vec}
 use Rattle.std.specs.declared.alloc.Global.{Global}
@@ -10,9 +11,11 @@ pub record Layout : Type 0 where
   pub sessions : ℕ
   pub contexts : ℕ
 
+-- the number of bindings
 abbrev pub bindings : Layout → ℕ
 bindings p = length p.rows
 
+-- the nodes that binding b matches, rising
 abbrev pub row : Layout → ℕ → List ℕ
 row p b = slice_index_or p.rows b []
 
@@ -40,7 +43,7 @@ layout_of nodes rows sessions contexts = record { nodes = nodes; rows = map (λ 
 unfoldable pub width : Layout → ℕ
 width p = (bindings p + 63) / 64
 
--- A node's summary word stands at its number, its row words behind all summary words
+-- A node's summary word stands at its number, its row words after all summary words
 unfoldable pub row_at : Layout → ℕ → ℕ → ℕ
 row_at p n r = p.nodes + (n * width p + r)
 
@@ -52,21 +55,26 @@ front p = p.nodes + p.nodes * width p
 abbrev pub words_in : Layout → ℕ
 words_in p = (front p + bindings p) + (p.sessions + 1)
 
--- behind the words of nodes come those of bindings, then those of the sessions, and last the word of ended contexts
+-- after the words of nodes come those of bindings, then those of the sessions, and last the word of ended contexts
 abbrev pub binding_at : Layout → ℕ → ℕ
 binding_at p b = front p + b
 
+-- the word of binding b
 abbrev pub binding_word : Layout → List ℕ → ℕ → ℕ
 binding_word p words b = slice_index words (binding_at p b)
 
+-- the number of the word of session s
 abbrev pub session_at : Layout → ℕ → ℕ
 session_at p s = (front p + bindings p) + s
 
+-- the number of the word of ended contexts, the last one
 abbrev pub end_at : Layout → ℕ
 end_at p = (front p + bindings p) + p.sessions
 
+-- the word of session s, which is the number of its answers
 abbrev pub session_word : Layout → List ℕ → ℕ → ℕ
 session_word p words s = slice_index words (session_at p s)
 
+-- the word of ended contexts, which is their number
 abbrev pub end_word : Layout → List ℕ → ℕ
 end_word p words = slice_index words (end_at p)

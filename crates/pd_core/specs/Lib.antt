@@ -1,3 +1,5 @@
+-- Definitions, which public contracts cite: Layout, Words, Counts, Talks, Views, Good, Kinds, Tokens, Runs and Steps.
+-- For the tests: Examples.
 pub mod Layout
 pub mod Words
 pub mod Counts

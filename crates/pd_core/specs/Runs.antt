@@ -1,3 +1,4 @@
+-- Definition, which public contracts cite.
 -- Lists of steps by any passes, from the opening state.
 use Rattle.std.specs.Prelude.{◌≡◌, ℕ, ◌<◌, ◌≤◌, List, [], ◌∷◌, ◌++◌, replicate, slice_set}
 use mathlib.Core.Option.{some}
@@ -20,13 +21,15 @@ pub data Turn : Type 0 where
   splits : ℕ → Turn
   joins : ℕ → ℕ → Turn
 
--- the shares that a split hands
+-- the view has the shares that a split hands on
 abbrev pub MaySplit : Layout → View → Type 0
 MaySplit p v = (2 ≤ v.seat_share) × (handed_share ≤ v.draw_share) × ((s : ℕ) → s < p.sessions → handed_answers ≤ answer_share s v.talk) × (1 ≤ v.talk.end_granted)
 
+-- the state after the pass `id` was split: the new pass comes last
 abbrev pub split_state : ℕ → View → State → State
 split_state id v s = record { words = s.words; views = slice_set s.views id (halved v) ++ newcomer v ∷ [] }
 
+-- the state after the pass `id` took in the pass `other`, which is left with nothing
 abbrev pub joined_state : ℕ → View → ℕ → View → State → State
 joined_state id v other w s = record { words = s.words; views = slice_set (slice_set s.views id (joined v w)) other spent_view }
 
@@ -36,6 +39,7 @@ Leads p s (moves k id) next = (v : View) × (get_elem? s.views id ≡ some v) ×
 Leads p s (splits id) next = (v : View) × (get_elem? s.views id ≡ some v) × MaySplit p v × (next ≡ split_state id v s)
 Leads p s (joins id other) next = (v : View) × (w : View) × (get_elem? s.views id ≡ some v) × (get_elem? s.views other ≡ some w) × (other ≡ id → ⊥) × (0 < v.seat_share) × (next ≡ joined_state id v other w s)
 
+-- these turns, one after another, lead from the one state to the other
 abbrev pub Runs : Layout → State → List Turn → State → Type 0
 Runs p s [] next = next ≡ s
 Runs p s (t ∷ ts) next = (m : State) × Leads p s t m × Runs p m ts next
@@ -49,7 +53,7 @@ abbrev pub BitsComeBySetBit : Type 0
 BitsComeBySetBit = (p : Layout) (s : State) (ts : List Turn) (next : State) (n b : ℕ) → Good p s.words s.views → Runs p s ts next → n < p.nodes → b < bindings p → mark p s.words n b ≡ 0 → mark p next.words n b ≡ 1
     → (k : ℕ) × (id : ℕ) × (get_elem? ts k ≡ some (moves (set_bit n b) id))
 
--- and a clear bit leaves it clear
+-- a clear bit leaves the bit clear
 abbrev pub ClearBitLeavesNone : Type 0
 ClearBitLeavesNone = (p : Layout) (s : State) (id : ℕ) (next : State) (n b : ℕ) → Good p s.words s.views → Leads p s (moves (clear_bit n b) id) next → mark p next.words n b ≡ 0
 

@@ -1,3 +1,4 @@
+-- Definition, which public contracts cite.
 -- The rule as a table's rule, and what a call asks of the table.
 use Rattle.std.specs.Prelude.{◌≡◌, ℕ}
 use Rattle.atomic_table.specs.Table.{Me, Allows}

@@ -1,3 +1,4 @@
+-- Definition, which public contracts cite.
 -- What a view knows of answers and ends, and the part of the rule on them.
 use Rattle.std.specs.Prelude.{◌≡◌, ℕ, ◌+◌, ◌-◌, ◌<◌, ◌≤◌, ◌^◌, List, [], ◌∷◌, ◌++◌, length, true, false}
 use mathlib.Core.Option.{some}
@@ -6,10 +7,11 @@ use Rattle.pd_core.specs.declared.view.Talk.{Talk}
 use Rattle.pd_core.specs.Layout.{Layout, session_word, end_word}
 use Rattle.pd_core.specs.Counts.{total, times, first_is, pair_is, once_below, one_if}
 
--- how many answers of the session it has counted, and how often this number, with those of the passes taken in
+-- how many answers of session s this pass counted, and those that it took in
 unfoldable pub spent : ℕ → Talk → ℕ
 spent s t = total (first_is s) t.numbers + total (first_is s) t.handed
 
+-- how often answer number x of session s was given to this pass or to one that it took in
 unfoldable pub numbers : ℕ → ℕ → Talk → ℕ
 numbers s x t = total (pair_is s x) t.numbers + total (pair_is s x) t.handed
 
@@ -17,16 +19,19 @@ numbers s x t = total (pair_is s x) t.numbers + total (pair_is s x) t.handed
 abbrev pub answer_share : ℕ → Talk → ℕ
 answer_share s t = t.granted - spent s t
 
--- how often it read this number of the session, and this number of ends, with what the passes taken in read
+-- how often this pass, or one that it took in, read the number x from the word of session s
 unfoldable pub readings : ℕ → ℕ → Talk → ℕ
 readings s x t = total (pair_is s x) t.reads + total (pair_is s x) t.handed_reads
 
+-- how often this pass, or one that it took in, read that x contexts have ended
 unfoldable pub end_readings : ℕ → Talk → ℕ
 end_readings x t = times x t.end_reads + times x t.handed_end_reads
 
+-- how many ends this pass, and those that it took in, counted
 abbrev pub ends_of : Talk → ℕ
 ends_of t = one_if t.ended + t.ends
 
+-- a pass that has no shares and neither took nor read anything
 abbrev pub silent : Talk
 silent = record { granted = 0; end_granted = 0; numbers = []; handed = []; reads = []; end_reads = []; handed_reads = []; handed_end_reads = []; ended = false; ends = 0 }
 
@@ -38,12 +43,15 @@ first_talk = record silent { granted = 2 ^ 32 - 1; end_granted = 2 ^ 32 - 1 }
 abbrev pub handed_answers : ℕ
 handed_answers = 2 ^ 26
 
+-- what a pass keeps when it is split: it hands on some shares
 abbrev pub halved_talk : Talk → Talk
 halved_talk t = record t { granted = t.granted - handed_answers; end_granted = t.end_granted - 1 }
 
+-- what the new pass of a split has: the shares that were handed on
 abbrev pub new_talk : Talk
 new_talk = record silent { granted = handed_answers; end_granted = 1 }
 
+-- what a pass has after it took in another: the shares of both, and what the other took and read beside its own
 abbrev pub joined_talk : Talk → Talk → Talk
 joined_talk t u = record t {
   granted = t.granted + u.granted;
@@ -54,16 +62,19 @@ joined_talk t u = record t {
   ends = t.ends + ends_of u;
 }
 
--- the number n of the session was counted; n was read; an end was counted; n ends were read
+-- after the number n of session s was counted
 abbrev pub answered : ℕ → ℕ → Talk → Talk
 answered s n t = record t { numbers = t.numbers ++ (s, n) ∷ [] }
 
+-- after n was read from the word of session s
 abbrev pub asked : ℕ → ℕ → Talk → Talk
 asked s n t = record t { reads = t.reads ++ (s, n) ∷ [] }
 
+-- after the pass counted its context as ended
 abbrev pub ended_talk : Talk → Talk
 ended_talk t = record t { end_granted = t.end_granted - 1; ended = true }
 
+-- after n was read from the word of ended contexts
 abbrev pub counted_ends : ℕ → Talk → Talk
 counted_ends n t = record t { end_reads = t.end_reads ++ n ∷ [] }
 

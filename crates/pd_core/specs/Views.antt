@@ -1,3 +1,4 @@
+-- Definition, which public contracts cite.
 -- What a view knows, and what each step makes of it.
 use Rattle.std.specs.Prelude.{◌≡◌, ℕ, zero, suc, ◌+◌, ◌-◌, ◌*◌, ◌/◌, ◌%◌, ◌^◌, List, [], ◌∷◌, ◌++◌, length, eqb, ltb, cond, not, Bool, true, false, ◌==◌, ◌&&◌, Option, Some, None}
 use Rattle.pd_core.specs.declared.view.View.{View}
@@ -14,11 +15,13 @@ use Rattle.pd_core.specs.Talks.{silent, first_talk, new_talk, halved_talk, joine
 use Rattle.pd_core.specs.Counts.{total, same, times, first_is, pair_is, once_below, one_if, only_if}
 use Rattle.pd_core.specs.Words.{attached, disposed, off, sum_in, bit_of, live}
 
+-- what is known of a binding: nothing, that it is attached, or that it is disposed
 pub data Known : Type 0 where
   fresh : Known
   found_attached : Known
   found_disposed : Known
 
+-- what is known where it was found disposed d times and found attached a times
 abbrev pub known_of : ℕ → ℕ → Known
 known_of (suc d) a = found_disposed
 known_of zero (suc a) = found_attached
@@ -28,26 +31,29 @@ known_of zero zero = fresh
 unfoldable pub known_in : List ℕ → List ℕ → ℕ → Known
 known_in on gone b = known_of (times b gone) (times b on)
 
+-- what the view knows of binding b
 abbrev pub known : View → ℕ → Known
 known v b = known_in v.found_attached v.found_disposed b
 
--- how many nodes of the row of b the attachment has come past, and whether the next one is half done
+-- how many nodes of the row of b the attachment has come past
 unfoldable pub past_in : Option Attaching → ℕ → ℕ
 past_in None b = 0
 past_in (Some a) b = cond (eqb b a.binding) a.past 0
 
+-- whether the bit of b is set at the next node of its attachment while its summary's isn't
 unfoldable pub half_in : Option Attaching → ℕ → Bool
 half_in None b = false
 half_in (Some a) b = eqb b a.binding && a.half
 
+-- how many nodes of the row of b the view's attachment has come past
 abbrev pub past_of : View → ℕ → ℕ
 past_of v b = past_in v.attaching b
 
--- the bit of b is set at the next node n, and its summary's not yet
+-- the bit of b is set at the next node n, while its summary's isn't
 abbrev pub IsHalf : Layout → Option Attaching → ℕ → ℕ → Type 0
 IsHalf p a b n = (half_in a b ≡ true) × IsAt p b (past_in a b) n
 
--- n is the next node of the row of b, and its bit is not yet set by this attachment
+-- n is the next node of the row of b, and this attachment hasn't set its bit
 abbrev pub IsNext : Layout → Option Attaching → ℕ → ℕ → Type 0
 IsNext p a b n = (half_in a b ≡ false) × IsAt p b (past_in a b) n
 
@@ -61,6 +67,7 @@ number_in (On x) = Some x
 number_in (Missed x) = Some x
 number_in Off = None
 
+-- 1 where the number is there and is x, and else 0
 abbrev pub at_number : ℕ → Option ℕ → ℕ
 at_number x None = 0
 at_number x (Some y) = same x y
@@ -84,14 +91,16 @@ abbrev pub turns : Bool → ℕ → Bool
 turns true w = (disposed w == 0) && (off w == 0)
 turns false w = (disposed w == 0) && (off w == 1)
 
+-- whether this toggle changed "off"
 abbrev pub did_turn : Toggle → Bool
 did_turn t = turns t.disables t.found
 
--- 1 where it is a disable (or an enable) of this binding, with a count of at most x
+-- whether a toggle is of the kind that is asked for: a disable (true) or an enable (false)
 abbrev pub is_kind : Bool → Bool → Bool
 is_kind true disables = disables
 is_kind false disables = not disables
 
+-- 1 where it is a disable (or an enable) of b that changed "off", with a count of at most x
 unfoldable pub toggle_upto : Bool → ℕ → ℕ → Toggle → ℕ
 toggle_upto kind b x t = same b t.binding * (one_if (is_kind kind t.disables && did_turn t) * once_below (sum_in t.found) (suc x))
 
@@ -104,6 +113,7 @@ abbrev pub already : Bool → ℕ → Bool
 already true w = (disposed w == 0) && (off w == 1)
 already false w = (disposed w == 0) && (off w == 0)
 
+-- whether this toggle found nothing to change, and not "disposed"
 abbrev pub found_so : Toggle → Bool
 found_so t = already t.disables t.found
 
@@ -123,36 +133,43 @@ drew_number b x d = total (gave b x) d.sights
 unfoldable pub misses : ℕ → ℕ → Deeds → ℕ
 misses b x d = total (missed b x) d.sights
 
--- the disables (or the enables) of b with counts of at most x, those with counts of at least x, and the toggles of b with the count n
+-- how many disables (or enables) of b had counts of at most x
 unfoldable pub toggles_upto : Bool → ℕ → ℕ → Deeds → ℕ
 toggles_upto on b x d = total (toggle_upto on b x) d.toggles
 
+-- how many disables (or enables) of b had counts of at least x
 unfoldable pub toggles_from : Bool → ℕ → ℕ → Deeds → ℕ
 toggles_from kind b x d = total (toggle_from kind b x) d.toggles
 
+-- how many toggles of b had the count n
 unfoldable pub toggles_at : ℕ → ℕ → Deeds → ℕ
 toggles_at b n d = total (toggle_at b n) d.toggles
 
--- how often b was set attached, how often first, and how often first and found disposed
+-- how often b was set attached
 unfoldable pub makings : ℕ → Deeds → ℕ
 makings b d = times b d.made
 
+-- how often b was set attached by the first to do so
 unfoldable pub firsts : ℕ → Deeds → ℕ
 firsts b d = times b d.firsts
 
+-- how often b was set attached by the first to do so, and found disposed
 unfoldable pub lates : ℕ → Deeds → ℕ
 lates b d = times b d.late
 
--- how many counts of a disposal of b are kept, and how often this count
+-- how many counts of a disposal of b are kept
 unfoldable pub disposals : ℕ → Deeds → ℕ
 disposals b d = total (first_is b) d.counts
 
+-- how often the count n of a disposal of b is kept
 unfoldable pub count_kept : ℕ → ℕ → Deeds → ℕ
 count_kept b n d = total (pair_is b n) d.counts
 
+-- a weight of what the pass did and of what was handed to it
 abbrev pub of_all : (Deeds → ℕ) → View → ℕ
 of_all f v = over f v.deeds v.taken
 
+-- the outcome of a draw of b, as a list; empty for a draw of another binding
 abbrev pub if_of : ℕ → Sight → List (Option ℕ)
 if_of b s = only_if (b == s.binding) (number_in s.drawn)
 
@@ -161,6 +178,7 @@ unfoldable pub outcomes : ℕ → List Sight → List (Option ℕ)
 outcomes b [] = []
 outcomes b (s ∷ ss) = if_of b s ++ outcomes b ss
 
+-- nothing was done
 abbrev pub no_deeds : Deeds
 no_deeds = record { sights = []; made = []; firsts = []; late = []; counts = []; toggles = [] }
 
@@ -176,6 +194,7 @@ first_view = record spent_view { seat_share = 2 ^ 32; draw_share = 2 ^ 60; talk 
 abbrev pub sight : ℕ → ℕ → Drawn → View → Sight
 sight event b o v = record { event = event; binding = b; drawn = o; before = length v.loads; step = v.steps }
 
+-- what a draw gives, by whether the binding is live, whether it is off, and its sum
 abbrev pub outcome : Bool → Bool → ℕ → Drawn
 outcome true true n = Missed n
 outcome true false n = On n
@@ -222,6 +241,7 @@ abbrev pub further : Option Attaching → Option Attaching
 further None = None
 further (Some a) = Some (record a { past = a.past + 1; half = false })
 
+-- the view after the bit in the summary was set: the attachment has come past the node
 abbrev pub summed : View → View
 summed v = record v { attaching = further v.attaching }
 
@@ -234,6 +254,7 @@ abbrev pub gather : (ℕ → Bool) → ℕ → List ℕ
 gather test zero = []
 gather test (suc n) = gather test n ++ only_if (test n) n
 
+-- whether it is known as attached, and not as disposed
 abbrev pub is_found_attached : Known → Bool
 is_found_attached found_attached = true
 is_found_attached _ = false
@@ -251,6 +272,7 @@ abbrev pub with_row : ℕ → ℕ → Option Loaded → Option Loaded
 with_row r w None = None
 with_row r w (Some l) = Some (record l { rows = l.rows ++ (r, w) ∷ [] })
 
+-- the view after the row word r of node n was loaded, and was w: bindings whose bits are missing there are disposed
 abbrev pub row_loaded : Layout → ℕ → ℕ → ℕ → View → View
 row_loaded p n r w v = record v { found_disposed = v.found_disposed ++ gather (is_missing p n r w v) (bindings p); loaded = with_row r w v.loaded }
 
@@ -265,15 +287,19 @@ toggled_as disables gone b w v = record v {
 abbrev pub drew : ℕ → ℕ → ℕ → View → View
 drew event b w v = drew_as (live w) (off w == 1) event b (sum_in w) v
 
+-- the view after a load of the word of b, which was w
 abbrev pub looked : ℕ → ℕ → ℕ → View → View
 looked event b w v = looked_as (live w) (disposed w == 1) event b v
 
+-- the view after "disposed" was set in the word of b, which was w
 abbrev pub disposed_of : ℕ → ℕ → View → View
 disposed_of b w v = disposed_as (disposed w == 0) b (sum_in w) v
 
+-- the view after "attached" was set in the word of b, which was w
 abbrev pub set_of : ℕ → ℕ → View → View
 set_of b w v = set_as (attached w == 0) (disposed w == 1) b v
 
+-- the view after b was switched off (or on), where its word was w
 abbrev pub toggled : Bool → ℕ → ℕ → View → View
 toggled disables b w v = toggled_as disables (disposed w == 1) b w v
 
@@ -281,6 +307,7 @@ toggled disables b w v = toggled_as disables (disposed w == 1) b w v
 abbrev pub spoke : Talk → View → View
 spoke t v = record v { talk = t }
 
+-- what the view knows of answers and ended contexts
 abbrev pub talk_of : View → Talk
 talk_of v = v.talk
 
@@ -292,10 +319,11 @@ noted word operand found v = record v { steps = v.steps + 1; last = record { wor
 abbrev pub handed_share : ℕ
 handed_share = 2 ^ 38
 
--- the view that splits, and the new one, which has what is known and its shares
+-- the view of the pass that is split: it hands on some shares
 abbrev pub halved : View → View
 halved v = record v { seat_share = v.seat_share - 1; draw_share = v.draw_share - handed_share; talk = halved_talk v.talk; steps = v.steps + 1 }
 
+-- the view of the new pass of a split: what the old one knows, and the shares that are handed on
 abbrev pub newcomer : View → View
 newcomer v = record spent_view { seat_share = 1; draw_share = handed_share; talk = new_talk; found_attached = v.found_attached; found_disposed = v.found_disposed }
 

@@ -13,9 +13,10 @@ use atomic_table::{Seat, Shared, Table};
 use std::alloc::{AllocError, Global};
 use std::marker::{Brand, Model};
 
+// The table of words, as all threads share it.
 type Words = Shared<u8, View, Rows, Law>;
 
-/// The words that threads share. It owns the one table of them.
+/// The words that threads share. It owns the one table of them; specs/Layout.antt says where each word lies.
 ///
 /// Each of its calls that take a pass is one operation on one word of the table. It takes no memory, and its contract
 /// is the row of its kind of step: the condition on the pass, and what the pass's view is afterwards. A call that gives
@@ -61,6 +62,11 @@ impl Model for Pass {
     ghost invariant = { λ p. (p.seat.me.1 ≡ []) × (0 < p.seat.me.0.seat_share) };
 }
 
+// The operations on a word follow. Each is a step of the kind that `J` names, and gives the word that it found; `a` and
+// `b` are the numbers of that kind, which no body reads. In the word of a binding 1 is "attached", 2 is "disposed", 4
+// is "off", and its sum is the rest, so that 8 adds one to it.
+
+// Loads the word.
 fn read<J: Doing>(words: &Words, seat: &mut Seat<u8, View>, word: usize, a: u32, b: u32) -> u64
     requires { (seat.old.table_id ≡ words.now.table_id) × (word < words.now.table_id.words) × (J.layout ≡ words.now.key) × Admits words.now.key J.kind words.now.table_id.slots seat.old.id seat.old.me word reads }
     ensures { (seat.new.table_id ≡ seat.old.table_id) × Told J.layout J.kind word (operand reads) seat.old.me result seat.new.me }
@@ -68,6 +74,7 @@ fn read<J: Doing>(words: &Words, seat: &mut Seat<u8, View>, word: usize, a: u32,
     words.load::<Does<J>>(seat, word)
 }
 
+// Adds `k` to the word.
 fn add<J: Doing>(
     words: &Words,
     seat: &mut Seat<u8, View>,
@@ -82,6 +89,7 @@ fn add<J: Doing>(
     words.fetch_add::<Does<J>>(seat, word, k)
 }
 
+// Sets the bits of `k` in the word.
 fn set<J: Doing>(
     words: &Words,
     seat: &mut Seat<u8, View>,
@@ -96,6 +104,7 @@ fn set<J: Doing>(
     words.fetch_or::<Does<J>>(seat, word, k)
 }
 
+// Leaves of the word only the bits of `k`.
 fn leave<J: Doing>(
     words: &Words,
     seat: &mut Seat<u8, View>,
@@ -111,6 +120,7 @@ fn leave<J: Doing>(
 }
 
 impl Core {
+    // The word `r` of the row words of node `n`.
     fn row_word(&self, n: u32, r: u32) -> usize
         requires { (n < self.now.layout.nodes) × (r < width self.now.layout) }
         ensures { result ≡ row_at self.now.layout n r }
@@ -118,6 +128,7 @@ impl Core {
         self.nodes as usize + (n as usize * self.rows + r as usize)
     }
 
+    // The word of a binding.
     fn binding_word(&self, b: u32) -> usize
         requires { b < bindings self.now.layout }
         ensures { result ≡ binding_at self.now.layout b }
@@ -125,7 +136,7 @@ impl Core {
         self.first_binding + b as usize
     }
 
-    // The word of a session. That of ended contexts lies behind the last.
+    // The word of a session. That of ended contexts lies after the last.
     fn session_word(&self, s: u32) -> usize
         requires { s ≤ self.now.layout.sessions }
         ensures { result ≡ session_at self.now.layout s }
@@ -158,7 +169,7 @@ impl Core {
         read::<Brand>(&table.shared, &mut p.seat, word, n, r)
     }
 
-    /// Loads the word of the binding `b`, of which nothing is known yet, and gives it. Where it is not live, the
+    /// Loads the word of the binding `b`, of which nothing is known, and gives it. Where it is not live, the
     /// view has a sight of the event without a number.
     pub fn load_binding(&self, p: &mut Pass, event: u32, b: u32) -> u64
         requires { (p.old.id ≡ self.now.id) × May self.now.layout (load_binding event b) p.old.view }
@@ -229,7 +240,7 @@ impl Core {
         set::<Brand>(&table.shared, &mut p.seat, word, 1, b, 0)
     }
 
-    /// Sets "disposed" in the word of the binding `b`, and gives the old word. Where that was not disposed yet, the
+    /// Sets "disposed" in the word of the binding `b`, and gives the old word. Where that was not disposed, the
     /// view keeps its sum as the count.
     pub fn set_disposed(&self, p: &mut Pass, b: u32) -> u64
         requires { (p.old.id ≡ self.now.id) × May self.now.layout (set_disposed b) p.old.view }
@@ -338,7 +349,7 @@ impl Core {
     }
 
     /// The core with all words 0, and the first pass, which has all shares. `rows` has for each binding the nodes that it
-    /// matches, rising. Answers `AllocError` where memory is wanting.
+    /// matches, rising. Where memory runs out it answers `AllocError`.
     pub fn new(
         alloc: Global,
         rows: Vec<Vec<u32>>,
@@ -379,8 +390,8 @@ impl Core {
         ))
     }
 
-    /// The last words. The rule holds of them, with the view of the last pass. Answers `AllocError` where memory is
-    /// wanting, and has used up the core then too.
+    /// Ends the core, and gives its last words. The rule holds of them, with the view of the last pass. Where memory
+    /// runs out it answers `AllocError`, and the core is used up all the same.
     pub fn close(self, alloc: Global, last: Pass) -> Result<Vec<u64>, AllocError>
         requires { last.id ≡ self.id }
         ensures { IfOk result (λ ws. IsLast self.layout last.view ws.items) }

@@ -21,6 +21,8 @@ impl Model for Rows {
     ghost view = { λ r. record { nodes = r.nodes; rows = map (λ v. v.items) r.lists.items; sessions = r.sessions; contexts = r.contexts } };
 }
 
+/// The rule of the core's table, as the table's crate asks for one: what holds of the words and of all views between
+/// any two steps. specs/Good.antt has it.
 pub struct Law;
 
 impl TableRule<u8, View, Rows> for Law {
@@ -32,7 +34,7 @@ impl TableRule<u8, View, Rows> for Law {
     ghost first = { λ _. first_view };
 }
 
-/// Which step a call takes. Each call picks it.
+/// Which kind of step a call takes. Each call names its own.
 pub(crate) trait Doing {
     ghost use Rattle.pd_core.specs.Layout.{Layout};
     ghost use Rattle.pd_core.specs.Kinds.{Kind};
@@ -51,6 +53,7 @@ impl Doing for Brand {
     ghost kind = { load_ends };
 }
 
+/// The step that `J` names, with what it makes of the pass's view.
 pub(crate) struct Does<J> {
     doing: PhantomData<J>,
 }
@@ -61,6 +64,7 @@ impl<J: Doing> Play<u8, View> for Does<J> {
     ghost then = { λ s me found me'. Told J.layout J.kind s.word s.first me found me' };
 }
 
+/// How a view is cut in two at a split, and how two become one at a join.
 pub(crate) struct Seats;
 
 impl Split<View> for Seats {

@@ -42,7 +42,7 @@ pub struct Deeds {
 }
 
 /// The attachment under way: of which binding, how many nodes of its row it has come past, and whether the bit is set
-/// at the next node and its summary's not yet.
+/// at the next node while its summary's isn't.
 pub struct Attaching {
     pub binding: u64,
     pub past: u64,
@@ -82,8 +82,11 @@ pub struct Did {
     pub found: u64,
 }
 
+/// All that a pass knows: what it may still do, what it found and did, and what it took in from passes that joined it.
 pub struct View {
+    /// How many passes this may become by splits, itself counted; the first pass has 2^32.
     pub seat_share: u64,
+    /// How many numbers of bindings it may still draw; the first pass has 2^60.
     pub draw_share: u64,
     /// The bindings that were found attached, and those that were found disposed. A join puts the lists of both together.
     pub found_attached: LinkedList<u64>,

@@ -1,1 +1,2 @@
+-- For the proofs alone: no public contract cites it.
 pub mod Parameters

@@ -1,3 +1,4 @@
+-- For the code's proofs: no public contract needs it.
 -- The parameters of a function, and functions that are no items.
 use Rattle.std.specs.Prelude.{ℕ, ◌≤◌, List, length, Option, None, Some}
 use Rattle.pd_values.specs.declared.value.Value.{Value}

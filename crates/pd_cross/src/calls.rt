@@ -64,6 +64,7 @@ pub fn write(
     write_text(m, n, &text, gives)
 }
 
+/// A text is written at a node, which gives the value; `OutputLong` where the output has no room for it.
 fn write_text(m: &mut Machine, n: NodeId, text: &Text, gives: Value) -> Result<(), AllocError>
     ensures { IfOk result (λ _. Does (λ stack s. settled stack (written n text.now gives s)) m.old m.new) }
 {

@@ -69,6 +69,7 @@ fn binary(
     }
 }
 
+/// Whether two values stand in this order, as a value.
 fn compared(op: Cmp, a: &Value, b: &Value) -> Result<Value, Fault>
     ensures { result ≡ both.as_truth (table.compare op a.now b.now) }
 {
@@ -103,6 +104,7 @@ fn sum(
     added(alloc, a, b, names)
 }
 
+/// Two values added, of which a function is an item with one of these names.
 fn added(
     alloc: Global,
     a: &Value,

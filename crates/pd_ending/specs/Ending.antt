@@ -1,4 +1,4 @@
--- When a run is over, and what a run without fuel has used.
+-- Definition: when a run is over, and what a run without fuel has used.
 use Rattle.std.specs.Prelude.{◌≡◌, ℕ, ◌+◌, ◌*◌, ◌≤◌}
 use Rattle.pd_values.specs.declared.value.End.TheVariants.{Exhausted}
 use Rattle.pd_tree.specs.Program.{Program}

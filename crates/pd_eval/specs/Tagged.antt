@@ -1,3 +1,4 @@
+-- Twin of the code, for its proofs: no public contract needs it.
 -- What the evaluator asks of tags, kinds, values and results.
 use Rattle.std.specs.Prelude.{ℕ, Bool, true, false, if◌then◌else◌, ◌==◌, List, [], ◌∷◌, Option, None, Some, Result, Ok, Err}
 use Rattle.pd_values.specs.declared.value.Tag.{Tag}

@@ -1,3 +1,4 @@
+-- Definition: `keep`, `GivesNoFunction` and `IsRan`; the rest is for proofs.
 -- What a watcher keeps, and how a machine and its watcher stand for a point of the meaning.
 use Rattle.std.specs.Prelude.{◌≡◌, ℕ, ◌+◌, ◌*◌, ◌-◌, ◌≤◌, if◌then◌else◌, List, [], ◌∷◌, ◌++◌, length}
 use Rattle.pd_values.specs.declared.value.Value.TheVariants.{Func}

@@ -47,6 +47,7 @@ fn has_tags(program: &Program, n: NodeId) -> bool
     n.0 < program.nodes() && any(program.tags(n))
 }
 
+/// Whether there is a tag.
 fn any(tags: &[Tag]) -> bool
     ensures { result ≡ is_tagged tags.now }
 {

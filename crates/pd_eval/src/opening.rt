@@ -73,6 +73,7 @@ fn main_blocks(alloc: Global, program: &Program) -> Result<Vec<Items<Value>>, Al
     Ok(blocks)
 }
 
+/// The variables of a main block, each 0; none where there is no main block.
 fn main_block(
     alloc: Global,
     program: &Program,

@@ -25,10 +25,11 @@ pub struct Ran {
     pub events: u32,
 }
 
-/// Runs a program from an item with so much fuel, at most 16,777,216, under a watcher that was told nothing yet. Where it
-/// answers, the watcher was told exactly the events that the program means under the verdicts that it keeps, and the
-/// answer is the output, the end, the fuel used and the number of events that it means. After want of memory the watcher
-/// keeps what it was told before. In each case what its calls leave as it was is as before.
+/// Runs a program from an item with so much fuel, at most 16,777,216, under a watcher that was told nothing before.
+/// Where it answers, the watcher was told exactly the events that the program means under the verdicts that it keeps,
+/// and the answer is the output, the end, the fuel used and the number of events that it means. Where memory runs out,
+/// or the watcher errs, it gives `AllocError`, and the watcher has been told some events. In each case what the
+/// watcher's calls never change (`fixed`) is as before.
 pub fn run<W: Watcher>(
     alloc: Global,
     program: &Program,
@@ -53,7 +54,7 @@ pub fn run<W: Watcher>(
     }
 }
 
-/// Runs a program from a root.
+/// Runs a program from a root: a function, a procedure or a main block.
 fn run_from<W: Watcher>(
     alloc: Global,
     program: &Program,

@@ -24,6 +24,7 @@ pub fn start(alloc: Global, m: &mut Machine, program: &Program, n: NodeId) -> Re
     start_node(alloc, m, program, n)
 }
 
+/// A node of the program begins its work, by its kind.
 fn start_node(
     alloc: Global,
     m: &mut Machine,
@@ -61,6 +62,7 @@ fn start_body(
     next_part(alloc, m, program, n, 0, no_values(alloc))
 }
 
+/// The values of no part.
 fn no_values(alloc: Global) -> Items<Value>
     ensures { result ≡ [] }
 {
@@ -154,6 +156,7 @@ fn enter_last(m: &mut Machine, parts: &[NodeId])
     }
 }
 
+/// The last part, if there is one.
 fn last_of(parts: &[NodeId]) -> Option<NodeId>
     ensures { result ≡ slice_get parts.now (length parts.now - 1) }
 {

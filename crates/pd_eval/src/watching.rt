@@ -18,11 +18,13 @@ use std::alloc::AllocError;
 /// Who is told the events of a run, each with the frames at that moment, and answers each with a verdict.
 /// A verdict counts on the Enter of a statement and on the Return of a call; elsewhere it has no effect.
 pub trait Watcher {
+    // The events that it was told, in order.
     ghost events: { Self → List Told };
 
+    // The verdicts that it has given, each at the number of its event.
     ghost kept: { Self → Verdicts };
 
-    // What its calls leave as it was.
+    // What its calls never change.
     ghost Fixed: { Type 0 };
 
     ghost fixed: { Self → Self.Fixed };

@@ -1,4 +1,4 @@
--- Which nodes satisfy a filter, and which nodes a binding is about.
+-- Definition: which nodes satisfy a filter, and which nodes a binding is about.
 use Rattle.std.specs.Prelude.{◌≡◌, ℕ, ◌<◌, Bool, true, false, not, ◌&&◌, ◌||◌, nat_le, ◌==◌, List, [], ◌∷◌, map, filter, length, slice_index, slice_index_or, Option, None, Some, is_none, bytes_eq}
 use Rattle.std.specs.List.{list_any}
 use Rattle.pd_values.specs.declared.value.Tag.{Tag}
@@ -14,6 +14,7 @@ use Rattle.pd_filter.specs.Resolving.{all_nodes, is_statement, starts_on, resolv
 
 -- ---- filters
 
+-- whether the list has no entry
 abbrev pub is_empty : {A : Type 0} → List A → Bool
 is_empty [] = true
 is_empty (_ ∷ _) = false
@@ -76,6 +77,7 @@ is_always_drawn (Observe f) = true
 is_always_drawn (Break b) = is_none b.condition
 is_always_drawn (Pause session) = true
 
+-- for each binding the nodes that it is about, rising, and whether it is drawn at each of them
 abbrev pub table_of : Plan → Program → MatchTable
 table_of plan p = record { rows = map (row_of p) plan.bindings; always = map is_always_drawn plan.bindings }
 
@@ -83,6 +85,7 @@ table_of plan p = record { rows = map (row_of p) plan.bindings; always = map is_
 abbrev pub Rising : List ℕ → Type 0
 Rising ns = (i j : ℕ) → i < j → j < length ns → slice_index ns i < slice_index ns j
 
+-- each number of the list is below the count
 abbrev pub AllBelow : ℕ → List ℕ → Type 0
 AllBelow count ns = (k : ℕ) → k < length ns → slice_index ns k < count
 

@@ -1,4 +1,4 @@
--- The nodes at which a breakpoint on a line stops.
+-- Definition: the nodes at which a breakpoint on a line stops.
 use Rattle.std.specs.Prelude.{ℕ, min, Bool, ◌&&◌, nat_le, ◌==◌, List, [], ◌∷◌, length, filter, Option, None, Some}
 use Rattle.std.specs.List.{range_with_len}
 use Rattle.pd_values.specs.declared.value.Tag.TheVariants.{Statement}
@@ -8,6 +8,7 @@ use Rattle.pd_tree.specs.Program.{Program, node_at, has_tag}
 abbrev pub all_nodes : Program → List ℕ
 all_nodes p = range_with_len 0 (length p.nodes)
 
+-- whether node n has the tag Statement
 abbrev pub is_statement : Program → ℕ → Bool
 is_statement p n = has_tag (node_at p n).tags Statement
 
@@ -19,6 +20,7 @@ starts_from p source line n = is_statement p n && ((node_at p n).source == sourc
 abbrev pub starts_on : Program → ℕ → ℕ → ℕ → Bool
 starts_on p source line n = is_statement p n && ((node_at p n).source == source) && ((node_at p n).line == line)
 
+-- the lesser line of the two, where the second may be absent
 abbrev pub lesser : ℕ → Option ℕ → Option ℕ
 lesser line None = Some line
 lesser line (Some other) = Some (min line other)

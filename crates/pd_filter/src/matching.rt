@@ -9,8 +9,9 @@ use pd_tree::Program;
 use pd_values::{Items, NodeId};
 use std::alloc::{AllocError, Global};
 
-/// The row of nodes of each binding of a plan, rising, and whether the binding is always drawn. It looks at each node once
-/// for each binding, twice for a breakpoint. Its error is want of memory alone.
+/// The row of nodes of each binding of a plan, rising, and whether the binding is always drawn there, as one without a
+/// condition is. It looks at each node once for each binding, twice for a breakpoint. The only error is `AllocError`,
+/// where memory runs out.
 pub fn matches(alloc: Global, plan: &Plan, program: &Program) -> Result<MatchTable, AllocError>
     ensures table { IfOk result (λ table. table ≡ table_of plan.now program.now) }
     ensures over { IfOk result (IsOver (length program.now.nodes)) }

@@ -1,3 +1,4 @@
+-- Definition, which public contracts cite.
 -- A context that begins, and one that is over.
 use Rattle.std.specs.Prelude.{◌≡◌, ℕ, ◌≤◌, ◌<◌, ◌^◌, Bool, true, false, [], length, slice_get, Option, None, Some}
 use Rattle.std.specs.List.{list_all}
@@ -13,13 +14,16 @@ use Rattle.pd_record.specs.declared.ContextRecord.{ContextRecord}
 use Rattle.pd_guest.specs.declared.hearing.Hearing.{Hearing}
 use Rattle.pd_guest.specs.Delivering.{fixed_of}
 
+-- the fuel of a context; 0 where there is none
 abbrev pub fuel_of : Option ContextSpec → ℕ
 fuel_of None = 0
 fuel_of (Some c) = c.fuel
 
+-- the fuel of the plan's context with this number; 0 where there is none
 abbrev pub fuel_at : Plan → ℕ → ℕ
 fuel_at plan context = fuel_of (slice_get plan.contexts context)
 
+-- whether the binding is an observer
 abbrev pub is_observer : BindingSpec → Bool
 is_observer (Observe f) = true
 is_observer _ = false

@@ -1,3 +1,4 @@
+-- For the code's proofs: no public contract needs it.
 -- What one draw does to a board and to what a context keeps.
 use Rattle.std.specs.Prelude.{◌≡◌, ℕ, ◌≤◌, ◌+◌, ◌==◌, ◌&&◌, Bool, false, not, List, [], ◌∷◌, ◌++◌, slice_set, Option, None, Some}
 use Rattle.pd_machine.specs.declared.event.Event.{Event}

@@ -1,3 +1,4 @@
+-- For the code's proofs: no public contract needs it.
 -- What stands between the events of a context.
 use Rattle.std.specs.Prelude.{◌≡◌, ℕ, ◌≤◌, ◌<◌, ◌+◌, ◌*◌, ◌^◌, Bool, true, false, nat_lt, List, [], length, slice_index_or, Some}
 use Rattle.std.specs.List.{All, list_all}

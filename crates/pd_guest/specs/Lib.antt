@@ -1,3 +1,5 @@
+-- Definitions, which public contracts cite: Beginning.
+-- For the proofs alone: Delivering, Meeting, Parting and Keeping.
 pub mod Delivering
 pub mod Meeting
 pub mod Parting

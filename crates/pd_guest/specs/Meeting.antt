@@ -1,3 +1,4 @@
+-- For the code's proofs: no public contract needs it.
 -- How the bindings that a load of a node held are served.
 use Rattle.std.specs.Prelude.{◌≡◌, ℕ, ◌≤◌, ◌<◌, ◌+◌, ◌^◌, ◌==◌, ◌&&◌, Bool, true, false, not, nat_le, nat_lt, List, [], ◌∷◌, ◌++◌, length, if◌then◌else◌, Some}
 use Rattle.std.specs.List.{list_all}

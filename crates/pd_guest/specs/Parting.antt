@@ -1,3 +1,4 @@
+-- For the code's proofs: no public contract needs it.
 -- How the bindings that an activation was given to are served at its end.
 use Rattle.std.specs.Prelude.{◌≡◌, ℕ, ◌≤◌, ◌+◌, ◌==◌, true, false, nat_lt, List, length}
 use Rattle.std.specs.List.{list_all}

@@ -16,6 +16,7 @@ use std::alloc::AllocError;
 pub struct Deliveries {
     pub context: u32,
     pub logs: Vec<Items<Entry>>,
+    /// All draws, in order.
     pub seen: Vec<Sight>,
 }
 

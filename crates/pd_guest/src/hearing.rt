@@ -16,7 +16,7 @@ use pd_machine::{Event, EventKind, Scene};
 use pd_values::{Items, NodeId};
 use std::alloc::{AllocError, Global};
 
-/// How many events a context may have: two for each unit of the greatest fuel.
+/// How many events a context may have: two, an Enter and an end, for each unit of the greatest fuel, 16,777,216.
 const MOST_EVENTS: u32 = 33_554_432;
 
 /// An activation that is open: the number of its Enter, and the bindings that this was given to, rising.
@@ -71,8 +71,8 @@ fn make_room<B: Board>(alloc: Global, board: &mut B, rows: u32) -> Result<(), Al
     board.reserve(alloc, rows)
 }
 
-/// Serves the Enter of an activation. Events come in order, and their nodes are below `nodes`; one that isn't so is
-/// refused like want of memory, and no run has one.
+/// Serves the Enter of an activation. Events come in order, and their nodes are below `nodes`. An event that isn't so
+/// gives `AllocError`, as running out of memory does; no run has one.
 pub(crate) fn enter<B: Board>(
     alloc: Global,
     board: &mut B,
@@ -122,7 +122,8 @@ fn open(opens: &mut Vec<Opened>, event: u32, on: Items<u32>) -> Result<(), Alloc
 }
 
 /// Serves the end of an activation, which is the innermost open one. Events come in order, and activations end in the
-/// order opposite to their Enters; an event that isn't so is refused like want of memory, and no run has one.
+/// order opposite to their Enters. An event that isn't so gives `AllocError`, as running out of memory does; no run has
+/// one.
 pub(crate) fn leave<B: Board>(
     alloc: Global,
     board: &mut B,
@@ -148,7 +149,7 @@ pub(crate) fn leave<B: Board>(
     Ok(())
 }
 
-/// Serves an event: its bindings are drawn. After an error nothing is served any more.
+/// Serves an event: its bindings are drawn. After an error each further event gives an error too.
 pub(crate) fn hear<B: Board>(
     alloc: Global,
     board: &mut B,

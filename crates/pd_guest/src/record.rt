@@ -20,9 +20,10 @@ use pd_tree::Program;
 use pd_values::Items;
 use std::alloc::{AllocError, Global};
 
-/// Runs a context of a plan whose bindings are observers, over a board on which nothing of it was done. At each event the
-/// gate is asked, and then the bindings are drawn in rising order. The record is that of the program's run with no verdict
-/// given; its logs are what the board's draws gave. Its error is want of memory alone.
+/// Runs a context of a plan whose bindings are observers, over a board on which nothing of it was done. Conditions: the
+/// program has an entry for the context, and its fuel is at most 16,777,216. At each event the gate is asked, and then
+/// the bindings are drawn in rising order. The record is that of the program's run with no verdict given; its logs are
+/// what the board's draws gave. The only error is `AllocError`, where memory runs out.
 pub fn run_context<B: Board, G: Gate>(
     alloc: Global,
     program: &Program,

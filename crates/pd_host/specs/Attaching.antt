@@ -1,3 +1,4 @@
+-- For the code's proofs: no public contract needs it.
 -- How a board stands when sessions have attached bindings before the run.
 use Rattle.std.specs.Prelude.{◌≡◌, ℕ, ◌<◌, ◌≤◌, if◌then◌else◌, List, []}
 use Rattle.pd_board.specs.declared.answers.Known.TheVariants as knowns

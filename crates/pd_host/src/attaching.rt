@@ -13,7 +13,8 @@ use pd_report::SessionRecord;
 use pd_values::Items;
 use std::alloc::{AllocError, Global};
 
-/// Attaches the `before` list of each session, session by session, and keeps the answers.
+/// Attaches the `before` list of each session, session by session, on a board on which nothing was attached, and keeps
+/// the answers.
 pub fn attach_all(
     alloc: Global,
     plan: &Plan,

@@ -19,7 +19,7 @@ use std::alloc::{AllocError, Global};
 
 /// Runs a plan with one context, whose bindings are observers and whose sessions do nothing but attach bindings before
 /// the run: on a new board the `before` list of each session is attached, session by session, and then the context
-/// runs. The gate is asked at each of its events. Its error is want of memory alone.
+/// runs. The gate is asked at each of its events. The only error is `AllocError`, where memory runs out.
 pub fn run_plan<G: Gate>(
     alloc: Global,
     plan: &Plan,

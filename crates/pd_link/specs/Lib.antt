@@ -1,2 +1,4 @@
+-- Definitions, which public contracts cite: Linking.
+-- For the proofs alone: Walks.
 pub mod Linking
 pub mod Walks

@@ -1,3 +1,4 @@
+-- Definition: `AllUnlinked`, `AllFound` and `AllBelow`; the rest is for proofs.
 -- The words of linking: what the walk over the nodes keeps, seen as the walk of the definition.
 use Rattle.std.specs.Prelude.{◌≡◌, ℕ, ◌+◌, ◌<◌, ◌≤◌, List, [], ◌∷◌, ◌++◌, length, map, reverse, Option, None, Some}
 use Rattle.pd_tree.specs.declared.kind.Visible.{Visible}
@@ -13,20 +14,25 @@ use Rattle.pd_tree.specs.Kept.{stretch}
 
 -- ---- parts and slots
 
+-- a node's parts, and how many slots the assignments after it use
 pub record Late : Type 0 where
   pub parts : List ℕ
   pub assigned : ℕ
 
+-- these of each node, of which the first has the number n
 abbrev pub late_from : ℕ → List Addition → List Late
 late_from n [] = []
 late_from n (a ∷ rest) = record { parts = parts_of n a rest; assigned = assigned_slots rest } ∷ late_from (n + 1) rest
 
+-- these of a node whose shape is kept
 abbrev pub late_in : List ℕ → Shape → Late
 late_in parts shape = record { parts = stretch shape.parts parts; assigned = shape.assigned }
 
+-- the stretch lies within the list
 abbrev pub IsIn : {T : Type 0} → List T → Span → Type 0
 IsIn items s = s.from + s.len ≤ length items
 
+-- the parts of each shape lie within the list
 abbrev pub AllShapesIn : List ℕ → List Shape → Type 0
 AllShapesIn parts [] = Unit {0}
 AllShapesIn parts (x ∷ xs) = IsIn parts x.parts × AllShapesIn parts xs
@@ -38,6 +44,7 @@ pub record ShapesFrom (n : ℕ) (rest : List Addition) (parts : List ℕ) (shape
 
 -- ---- the walk
 
+-- an open node, with the variables that are seen around it
 abbrev pub open_in : List Visible → Opened → Open
 open_in variables x = record { node = x.node; left = x.left; first = x.first; root = x.root; level = x.level; outside = stretch x.outside variables }
 
@@ -45,9 +52,11 @@ open_in variables x = record { node = x.node; left = x.left; first = x.first; ro
 abbrev pub opens_in : List Visible → List Opened → List Open
 opens_in variables opened = reverse (map (open_in variables) opened)
 
+-- the walk that is kept with these open nodes and this stretch of seen variables
 abbrev pub walk_in : List Visible → List Opened → Span → Walk
 walk_in variables opened seen = record { open_nodes = opens_in variables opened; seen = stretch seen variables }
 
+-- the variables around each open node lie within the list
 abbrev pub AllOpenedIn : List Visible → List Opened → Type 0
 AllOpenedIn variables [] = Unit {0}
 AllOpenedIn variables (x ∷ xs) = IsIn variables x.outside × AllOpenedIn variables xs
@@ -80,10 +89,12 @@ IsUnlinked (Means i) = ⊥
 IsUnlinked (Local up slot) = Unit {0}
 IsUnlinked Nothing = Unit {0}
 
+-- no node's name means an item so far
 abbrev pub AllUnlinked : List Addition → Type 0
 AllUnlinked [] = Unit {0}
 AllUnlinked (a ∷ rest) = IsUnlinked a.meaning × AllUnlinked rest
 
+-- each of the numbers is that of an item
 abbrev pub AllBelow : ℕ → List ℕ → Type 0
 AllBelow items [] = Unit {0}
 AllBelow items (i ∷ is) = (i < items) × AllBelow items is

@@ -1,3 +1,4 @@
+-- Twin of the code, for its proofs: no public contract needs it.
 -- What a walk over the nodes keeps: the variables that are seen, and the nodes of which parts may still come.
 use Rattle.std.specs.Prelude.{◌≡◌, ℕ, ◌+◌, ◌<◌, ◌≤◌, max, Bool, false, ◌||◌, if◌then◌else◌, nat_lt, List, [], ◌∷◌, ◌++◌, length, take, drop, slice_index_or, Option, bytes_eq}
 use Rattle.pd_tree.specs.declared.kind.Kind.{Kind}
@@ -37,12 +38,12 @@ is_hidden name variables constants x = bytes_eq x name || (is_among variables x 
 abbrev pub seen_around : List ℕ → List (List ℕ) → List (List ℕ) → List Visible → List Visible
 seen_around name variables constants seen = from_inside (without_all constants (without_all variables (without name seen)))
 
--- how many variables at the front have slots below this one
+-- how many variables, from the first on, have slots below this one
 abbrev pub slots_before : ℕ → List Visible → ℕ
 slots_before slot [] = 0
 slots_before slot (v ∷ vs) = if nat_lt v.slot slot then slots_before slot vs + 1 else 0
 
--- what a node sees, by what is seen at its first byte and behind it
+-- what a node sees, by what is seen at its first byte and after it
 abbrev pub seen_by : Kind → List (List ℕ) → List Visible → List Visible → List Visible
 seen_by (SlFunction _ _) inner seen inside = inside
 seen_by (PlProcedure _ _) inner seen inside = without_all inner inside
@@ -58,12 +59,14 @@ abbrev pub AllUp : ℕ → List Visible → Type 0
 AllUp k [] = Unit {0}
 AllUp k (v ∷ vs) = (v.up ≤ k) × AllUp k vs
 
--- ---- the slots of a node, by how many variables are seen inside and how many slots the assignments behind it use
+-- ---- the slots of a node, by how many variables are seen inside and how many slots the assignments after it use
 
+-- so many variables are seen inside a function as it has parameters, each name once
 abbrev pub IsSeenInside : Kind → ℕ → Type 0
 IsSeenInside (SlFunction _ parameters) inside = inside ≡ length (with_parameters [] parameters)
 IsSeenInside _ inside = Unit {0}
 
+-- how many variables a function or procedure has, where the assignments inside use so many slots
 abbrev pub slots_by : Kind → ℕ → ℕ
 slots_by (SlFunction _ parameters) assigned = max (length (with_parameters [] parameters)) assigned
 slots_by (PlProcedure _ variables) assigned = length variables
@@ -87,7 +90,7 @@ node_with a children meaning stands root level slots sees = record {
   column = a.column;
 }
 
--- a node, by its parts and by the slots behind it
+-- a node, by its parts and by the slots after it
 abbrev pub node_by : List Addition → ℕ → Option ℕ → Walk → Addition → List ℕ → ℕ → Node
 node_by all n found w a parts assigned = node_with a parts
     (linked a.meaning found)
@@ -99,15 +102,18 @@ node_by all n found w a parts assigned = node_with a parts
 
 -- ---- what a walk over so many nodes keeps
 
+-- an open node has a number, a level and variables around it that fit node k
 pub record IsOpenAt (k : ℕ) (o : Open) : Type 0 where
   pub node : o.node < k
   pub level : o.level ≤ k
   pub up : AllUp k o.outside
 
+-- so has each open node
 abbrev pub AllOpenAt : ℕ → List Open → Type 0
 AllOpenAt k [] = Unit {0}
 AllOpenAt k (o ∷ os) = IsOpenAt k o × AllOpenAt k os
 
+-- the walk has come to node k
 pub record IsWalkTo (k : ℕ) (w : Walk) : Type 0 where
   pub open_nodes : AllOpenAt k w.open_nodes
   pub up : AllUp k w.seen
@@ -119,6 +125,7 @@ pub record Walks (old new : List Visible) (opened : List Opened) (seen : Span) (
   pub seen_within : IsIn new seen
   pub walked : walk_in new opened seen ≡ walk
 
+-- the walk that a walker keeps
 abbrev pub walk_of : Walker → Walk
 walk_of w = walk_in w.variables.items w.opened.items w.seen
 
@@ -137,6 +144,7 @@ pub record Steps (all : List Addition) (n : ℕ) (found : Option ℕ) (parts : L
       ≡ node_by all n found (walk_of old) (slice_index_or all n no_addition) (stretch shape.parts parts) shape.assigned
   pub within : IsWithin parts new.variables.items place
 
+-- the stretches of each place lie within the two lists
 abbrev pub AllPlacesIn : List ℕ → List Visible → List Place → Type 0
 AllPlacesIn parts variables [] = Unit {0}
 AllPlacesIn parts variables (p ∷ ps) = IsWithin parts variables p × AllPlacesIn parts variables ps

@@ -15,7 +15,7 @@ pub struct Listed {
     pub roots: Vec<Option<u32>>,
 }
 
-/// The items of these nodes: `println`, and then each function, procedure and main block.
+/// The items of these nodes, at most 65,536: `println`, and then each function, procedure and main block.
 pub fn list_items(alloc: Global, all: &[Addition]) -> Result<Listed, AllocError>
     requires few { length all.now ≤ 65536 }
     ensures items { IfOk result (λ x. items_in x.names.items x.roots.items ≡ definition.items_of all.now) }

@@ -18,7 +18,7 @@ pub struct Places {
     pub variables: Vec<Visible>,
 }
 
-/// The places of these nodes, where items were found for the names of some.
+/// The places of these nodes, at most 65,536, where items were found for the names of some.
 pub fn places_of(
     alloc: Global,
     all: &[Addition],

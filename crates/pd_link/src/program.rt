@@ -10,7 +10,8 @@ use pd_tree::{Lists, Program, Tree};
 use std::alloc::{AllocError, Global};
 
 /// The program of these trees, in the order of their sources. `found` has for each node the item that its name means,
-/// if one was found; `entries` an item for each context.
+/// if one was found; `entries` an item for each context. Conditions: the trees have at most 65,536 nodes together, and
+/// none of their names means an item so far. Where memory runs out it answers `AllocError`.
 pub fn link(
     alloc: Global,
     trees: Vec<Tree>,

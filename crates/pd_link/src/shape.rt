@@ -7,7 +7,7 @@ use pd_tree::{Addition, Kind, Meaning, Span};
 use pd_values::NodeId;
 use std::alloc::{AllocError, Global};
 
-/// The parts of a node, a stretch of a program's parts, and how many slots the assignments behind it use.
+/// The parts of a node, a stretch of a program's parts, and how many slots the assignments after it use.
 #[derive(Clone, Copy, Drop)]
 pub struct Shape {
     pub parts: Span,
@@ -21,7 +21,7 @@ pub struct Shapes {
     pub shapes: Vec<Shape>,
 }
 
-/// The shapes of these nodes.
+/// The shapes of these nodes, at most 65,536.
 pub fn shapes_of(alloc: Global, all: &[Addition]) -> Result<Shapes, AllocError>
     requires complete { definition.AllComplete all.now }
     requires few { length all.now ≤ 65536 }
@@ -66,7 +66,7 @@ fn take_tops(tops: &mut Vec<NodeId>, parts: &mut Vec<NodeId>, count: u32) -> Res
     Ok(())
 }
 
-/// How many slots are used from a node on, where so many are used behind it.
+/// How many slots are used from a node on, where so many are used after it.
 fn more_slots(kind: &Kind, meaning: Meaning, later: u32) -> u32
     requires { definition.slots_up_to meaning < 2 ^ 32 }
     ensures { result ≡ definition.more_slots kind.now meaning later }

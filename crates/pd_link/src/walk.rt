@@ -31,7 +31,7 @@ pub struct Walker {
     pub opened: Vec<Opened>,
     /// All variables that are or were seen; each node sees a stretch of them.
     pub variables: Vec<Visible>,
-    /// Those that are seen behind the last node.
+    /// Those that are seen after the last node.
     pub seen: Span,
 }
 
@@ -49,7 +49,7 @@ impl Walker {
     }
 
     /// Goes over node `n`, which has these parts and slots and for whose name this item was found, and says where it
-    /// stands.
+    /// stands. A program has at most 65,536 nodes.
     pub fn step(
         &mut self,
         all: &[Addition],
@@ -127,7 +127,7 @@ impl Walker {
         }
     }
 
-    /// Opens a node behind whose first byte this is seen, and ends it and those around it to which no part comes any
+    /// Opens a node after whose first byte this is seen, and ends it and those around it to which no part comes any
     /// more.
     fn enter(&mut self, all: &[Addition], next: Opened, inside: Span) -> Result<(), AllocError>
         requires opened { linking.AllOpenedIn self.old.variables.items self.old.opened.items }
@@ -220,7 +220,7 @@ fn linked(meaning: Meaning, found: Option<u32>) -> Meaning
     }
 }
 
-/// How many variables a function or a procedure has, where so many are seen inside and the assignments behind use so
+/// How many variables a function or a procedure has, where so many are seen inside and the assignments after use so
 /// many slots.
 fn slots(kind: &Kind, inside: usize, assigned: u32) -> u32
     requires names { length (definition.names_in kind.now) < 2 ^ 32 }

@@ -1,3 +1,5 @@
+-- Definitions, which public contracts cite: Names, Linked, Loading and Tables.
+-- For the proofs alone: Scopes.
 pub mod Names
 pub mod Linked
 pub mod Loading

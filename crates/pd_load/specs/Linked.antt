@@ -1,4 +1,4 @@
--- The program of the trees of a plan's sources, or the first export or entry that is refused.
+-- Definition: the program of the trees of a plan's sources, or the first export or entry that is refused.
 use Rattle.std.specs.Prelude.{ℕ, ◌+◌, if◌then◌else◌, List, [], ◌∷◌, ◌++◌, slice_index_or, is_some, Option, None, Result, Ok, Err}
 use Rattle.std.specs.Option.{ok_or}
 use Rattle.pd_plan.specs.declared.plan.SourceSpec.{SourceSpec}
@@ -17,6 +17,7 @@ abbrev pub interfaces : ℕ → List SourceSpec → List (List Addition) → Lis
 interfaces item (s ∷ ss) (t ∷ ts) = interface_of s.language item t ∷ interfaces (item_behind item t) ss ts
 interfaces item _ _ = []
 
+-- what can be called of the source with this number; nothing where there is none
 abbrev pub interface_at : List Interface → ℕ → Interface
 interface_at all source = slice_index_or all source (record { main = None; symbols = [] })
 
@@ -30,13 +31,13 @@ abbrev pub and_then : {T U : Type 0} → Result T LoadRefusal → (T → Result 
 and_then (Ok x) next = next x
 and_then (Err refusal) next = Err refusal
 
--- the item of an export, the one of number k behind earlier ones
+-- the item of an export, the one of number k after earlier ones
 abbrev pub exported_item : List Interface → ℕ → List Symbol → ExportSpec → Result ℕ LoadRefusal
 exported_item all k earlier e =
     if is_some (lookup e.name earlier) then Err (record { source = e.source; cause = DoubledExport k })
     else ok_or (lookup e.item (interface_at all e.source).symbols) (record { source = e.source; cause = NoSuchItem k })
 
--- the exports as symbols, those from number k on behind earlier ones
+-- the exports as symbols, those from number k on after earlier ones
 abbrev pub exports_from : List Interface → ℕ → List Symbol → List ExportSpec → Result (List Symbol) LoadRefusal
 exports_from all k earlier [] = Ok earlier
 exports_from all k earlier (e ∷ es) =
@@ -46,7 +47,7 @@ exports_from all k earlier (e ∷ es) =
 abbrev pub entry_item : List Interface → ℕ → ContextSpec → Result ℕ LoadRefusal
 entry_item all k c = ok_or (entry_in (interface_at all c.source) c.entry) (record { source = c.source; cause = NoSuchEntry k })
 
--- the items that the contexts call, those from number k on behind earlier ones
+-- the items that the contexts call, those from number k on after earlier ones
 abbrev pub entries_from : List Interface → ℕ → List ℕ → List ContextSpec → Result (List ℕ) LoadRefusal
 entries_from all k earlier [] = Ok earlier
 entries_from all k earlier (c ∷ cs) = and_then (entry_item all k c) (λ i. entries_from all (k + 1) (earlier ++ i ∷ []) cs)

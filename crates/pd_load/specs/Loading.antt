@@ -1,5 +1,5 @@
--- What loading answers: the linked program of the trees that the sources spell, or the first refusal. First come the tokens and the tree
--- of each source in order, then the exports, then the entries.
+-- Definition: what loading answers: the linked program of the trees that the sources spell, or the first refusal. First
+-- come the tokens and the tree of each source in order, then the exports, then the entries.
 use Rattle.std.specs.Prelude.{◌≡◌, ℕ, ◌+◌, ◌-◌, ◌⊎◌, List, [], ◌∷◌, length, Ok, Err}
 use Rattle.pd_sections.specs.declared.Token.{Token}
 use Rattle.pd_sections.specs.declared.Refusal.{Refusal}
@@ -44,12 +44,13 @@ IsMisspelled Pl0 room bytes refusal =
 
 -- ---- the sources from a number on
 
+-- the trees are those of the sources, one for each; `room` nodes may be made by all together
 abbrev pub AreTrees : ℕ → ℕ → List SourceSpec → List Written → List (List Addition) → Type 0
 AreTrees number room [] [] [] = Unit {0}
 AreTrees number room (s ∷ ss) (w ∷ ws) (t ∷ ts) = IsTree s.language room number w.bytes t × AreTrees (number + 1) (room - length t) ss ws ts
 AreTrees number room _ _ _ = ⊥
 
--- the first source that isn't spelled, behind sources that are
+-- the first source that isn't spelled, after sources that are
 abbrev pub IsFirstMisspelled : ℕ → ℕ → List SourceSpec → List Written → LoadRefusal → Type 0
 IsFirstMisspelled number room (s ∷ ss) (w ∷ ws) refusal =
     ((breach : Refusal) × IsMisspelled s.language room w.bytes breach × (refusal ≡ record { source = number; cause = Spelling breach }))
@@ -58,18 +59,21 @@ IsFirstMisspelled number room _ _ refusal = ⊥
 
 -- ---- a plan
 
+-- the trees are those of the plan's sources, with at most `most_nodes` nodes together
 abbrev pub AreTreesOf : Plan → List Written → List (List Addition) → Type 0
 AreTreesOf plan sources trees = AreTrees 0 most_nodes plan.sources sources trees
 
+-- each source spells a tree, and the program is the linked one of these trees
 abbrev pub IsLoaded : Plan → List Written → Program → Type 0
 IsLoaded plan sources program = (trees : List (List Addition)) × AreTreesOf plan sources trees × (linked plan trees ≡ Ok program)
 
+-- the refusal is the first one: of a source that spells no tree, or else of an export or an entry
 abbrev pub IsRefused : Plan → List Written → LoadRefusal → Type 0
 IsRefused plan sources refusal =
     IsFirstMisspelled 0 most_nodes plan.sources sources refusal
     ⊎ ((trees : List (List Addition)) × AreTreesOf plan sources trees × (linked plan trees ≡ Err refusal))
 
--- loading is given up for the first refusal, or for want of memory
+-- loading is given up for the first refusal, or where memory runs out
 abbrev pub StopsFor : Plan → List Written → Stop LoadRefusal → Type 0
 StopsFor plan sources (Refused refusal) = IsRefused plan sources refusal
 StopsFor plan sources Memory = Unit {0}

@@ -1,3 +1,4 @@
+-- Definition: `IsText`; the rest is for proofs.
 -- Tables of names, as the code keeps them.
 use Rattle.std.specs.Prelude.{◌≡◌, ℕ, List, [], ◌∷◌, Result, Err, String}
 use Rattle.std.specs.Option.{option_or}
@@ -29,6 +30,7 @@ pub record IsInterface (callables : Callables) (i : Interface) : Type 0 where
   pub main : callables.main ≡ i.main
   pub symbols : IsTable callables.symbols i.symbols
 
+-- the tables of the sources have these interfaces, one for each
 abbrev pub AreTables : List Callables → List Interface → Type 0
 AreTables [] [] = Unit {0}
 AreTables (c ∷ cs) (i ∷ is) = IsInterface c i × AreTables cs is
@@ -38,16 +40,19 @@ AreTables _ _ = ⊥
 abbrev pub IsText : Written → Type 0
 IsText w = IsUtf8 w.bytes
 
--- ---- what stops the steps of loading, where want of memory may stop each
+-- ---- what stops the steps of loading; memory may run out in each
 
+-- a call stops with the refusal of the definition's answer, or for memory
 abbrev pub StopsWith : {T : Type 0} → Result T LoadRefusal → Stop LoadRefusal → Type 0
 StopsWith answer (Refused refusal) = answer ≡ Err refusal
 StopsWith answer Memory = Unit {0}
 
+-- the reading of one source stops with its refusal, or for memory
 abbrev pub StopsReading : Language → ℕ → List ℕ → Stop Refusal → Type 0
 StopsReading language room bytes (Refused refusal) = IsMisspelled language room bytes refusal
 StopsReading language room bytes Memory = Unit {0}
 
+-- the reading of the sources stops with the first refusal, or for memory
 abbrev pub StopsSpelling : List SourceSpec → List Written → Stop LoadRefusal → Type 0
 StopsSpelling specs sources (Refused refusal) = IsFirstMisspelled 0 most_nodes specs sources refusal
 StopsSpelling specs sources Memory = Unit {0}

@@ -12,7 +12,7 @@ use pd_sections::Stop;
 use std::alloc::Global;
 use std::collections::BTreeMap;
 
-/// The item of an export, the one of this number, behind earlier ones.
+/// The item that export `number` names; `earlier` has the exports before it.
 fn item_exported(
     export: &ExportSpec,
     number: u32,
@@ -60,7 +60,7 @@ pub fn exports_of(
     Ok(table)
 }
 
-/// The item that a context calls, the context of this number.
+/// The item that context `number` calls.
 fn item_entered(
     context: &ContextSpec,
     number: u32,

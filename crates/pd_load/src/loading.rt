@@ -19,7 +19,7 @@ use std::alloc::Global;
 /// 65,536 nodes together; then the exports in order, each of which must have a name that no earlier one has, and name an
 /// item of its source; then the entries of the contexts in order.
 ///
-/// `sources` are the plan's, in its order.
+/// `sources` are the plan's, in its order. Memory may run out at any point: then `Stop::Memory`.
 pub fn load(alloc: Global, sources: &[Source], plan: &Plan) -> Result<Program, Stop<LoadRefusal>>
     requires sound { IsSound plan.now }
     requires each { length sources.now ≡ length plan.now.sources }

@@ -44,7 +44,7 @@ pub fn item_of(table: &Table, name: &str) -> Option<u32>
     table.get(name).copied()
 }
 
-/// Makes a name mean an item, and no other one any more.
+/// Makes a name mean this item, and no longer any earlier one.
 pub fn define(alloc: Global, table: &mut Table, name: &str, item: u32) -> Result<(), AllocError>
     ensures { OnOk result (Gains table.old table.new (record { name = name.now; item = item } ∷ [])) }
 {
@@ -109,7 +109,7 @@ fn define_procedure(
     Ok(())
 }
 
-/// The number of the next item behind a node, where the node is the item of this number if it is one.
+/// The number of the next item after a node, where the node is the item of this number if it is one.
 pub fn next_item(kind: &Kind, item: u32) -> u32
     requires { item + 1 < 2 ^ 32 }
     ensures { result ≡ definition.next_item kind.now item }

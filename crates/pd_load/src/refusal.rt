@@ -1,7 +1,7 @@
 //! Why sources are refused.
 use pd_sections::Refusal;
 
-/// What is refused of a source.
+/// Why a source, an export or a context is refused.
 #[derive(Clone, Copy, PartialEq, Eq, Debug)]
 pub enum LoadCause {
     /// A token or the grammar: the rule and the byte.
@@ -12,7 +12,7 @@ pub enum LoadCause {
     DoubledExport { export: u32 },
     /// The context of this number names no entry of its source.
     NoSuchEntry { context: u32 },
-    /// The bytes aren't UTF-8; the first `at` of them are, and no longer front is.
+    /// The bytes aren't UTF-8; `at` is the length of the longest prefix that is UTF-8.
     NotUtf8 { at: u32 },
 }
 

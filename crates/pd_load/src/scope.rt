@@ -14,7 +14,7 @@ pub struct Procedure {
     pub item: u32,
 }
 
-/// A node of which parts may still come, and how many procedures are visible behind it.
+/// A node of which parts may still come, and how many procedures are visible after it.
 #[derive(Clone, Copy, Drop)]
 pub struct Unfinished {
     pub left: u32,
@@ -22,7 +22,7 @@ pub struct Unfinished {
 }
 
 /// What stands around the next node of a source: the unfinished nodes from the outermost inward, and the visible
-/// procedures, an inner one behind those that it hides.
+/// procedures, an inner one after those that it hides.
 #[derive(Drop)]
 pub struct Scope {
     pub unfinished: Vec<Unfinished>,

@@ -22,6 +22,7 @@ fn sl_tree_of(alloc: Global, source: &Source, number: u32, room: u32) -> Result<
     ensures text { IsUtf8 source.now.bytes }
     ensures refused { IfErr result (StopsReading Sl room source.now.bytes) }
 {
+    // For the contract: `bytes` says that a source's bytes are UTF-8, which the clause `text` promises.
     let _ = source.bytes();
     let tokens = pd_sl_lex::lex(alloc, source)?;
     pd_sl_parse::parse(alloc, source, number, &tokens, room)
@@ -38,12 +39,13 @@ fn pl0_tree_of(
     ensures text { IsUtf8 source.now.bytes }
     ensures refused { IfErr result (StopsReading Pl0 room source.now.bytes) }
 {
+    // For the contract: `bytes` says that a source's bytes are UTF-8, which the clause `text` promises.
     let _ = source.bytes();
     let tokens = pd_pl0_lex::lex(alloc, source)?;
     pd_pl0_parse::parse(alloc, source, number, &tokens, room)
 }
 
-/// The tree of a source, the one of this number, where so many nodes may still be made.
+/// The tree of the source `number`, which may have `room` nodes, at most 65,536.
 fn tree_of(
     alloc: Global,
     language: Language,
@@ -62,7 +64,7 @@ fn tree_of(
     }
 }
 
-/// What refuses a source of this number.
+/// The same stop, as one of the source `number`.
 fn at_source(number: u32, stop: Stop<Refusal>) -> Stop<LoadRefusal>
     ensures { result ≡ at_source number stop }
 {

@@ -1,4 +1,4 @@
--- Which entry of a log is the Enter of which.
+-- Definition: which entry of a log is the Enter of which.
 use Rattle.std.specs.Prelude.{◌≡◌, ℕ, ◌<◌, List, [], ◌∷◌, length, slice_index_or}
 use Rattle.pd_machine.specs.declared.event.EventKind.TheVariants.{Enter}
 use Rattle.pd_log.specs.declared.Entry.{Entry}
@@ -7,6 +7,7 @@ use Rattle.pd_log.specs.declared.Entry.{Entry}
 abbrev pub no_entry : Entry
 no_entry = record { context = 0; event = 0; opened = 0; place = 0; kind = Enter; node = 0 }
 
+-- the entry at position i of the log
 abbrev pub entry_at : List Entry → ℕ → Entry
 entry_at log i = slice_index_or log i no_entry
 

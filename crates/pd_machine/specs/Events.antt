@@ -1,3 +1,4 @@
+-- Definition, which public contracts cite.
 -- The state of a run, and the events that it tells, each with the frames at that moment.
 use Rattle.pd_machine.specs.declared.run.Home.{Home}
 use Rattle.pd_machine.specs.declared.run.Home.TheVariants.{InFrame, InMain}
@@ -23,6 +24,7 @@ pub record Told : Type 0 where
   pub event : Event
   pub scene : Scene
 
+-- a run so far: the frames and variables, the output, the events, and the fuel
 pub record State : Type 0 where
   pub scene : Scene
   -- the bytes written so far
@@ -48,22 +50,27 @@ frame_of frames i = if nat_lt i (length frames) then slice_get frames (length fr
 abbrev pub from_outermost : List Frame → ℕ → ℕ
 from_outermost frames k = length frames - suc k
 
+-- the function or procedure of a frame, if there is the frame
 abbrev pub root_of : Option Frame → Option ℕ
 root_of None = None
 root_of (Some f) = Some f.root
 
+-- the node where a frame stands, if there is the frame
 abbrev pub at_of : Option Frame → Option ℕ
 at_of None = None
 at_of (Some f) = Some f.at
 
+-- the variables of a frame; none where there is no frame
 abbrev pub variables_of : Option Frame → List Value
 variables_of None = []
 variables_of (Some f) = f.variables
 
+-- where the variables stand of the blocks that a frame sees, from its own outward; none where there is no frame
 abbrev pub blocks_of : Option Frame → List Home
 blocks_of None = []
 blocks_of (Some f) = f.blocks
 
+-- the variables of the block that stands there; none where there is none
 abbrev pub variables_at : Scene → Option Home → List Value
 variables_at c None = []
 variables_at c (Some (InFrame k)) = variables_of (slice_get c.frames k)
@@ -79,6 +86,7 @@ set_home c None slot a = c
 set_home c (Some (InFrame k)) slot a = record c { frames = change_at c.frames k (λ f. record f { variables = slice_set f.variables slot a }) }
 set_home c (Some (InMain m)) slot a = record c { mains = change_at c.mains m (λ vs. slice_set vs slot a) }
 
+-- the scene where the variable in this slot of the block `up` blocks outward of the innermost frame has the value a
 abbrev pub set_variable : Scene → ℕ → ℕ → Value → Scene
 set_variable c up slot a = set_home c (slice_get (blocks_of (frame_of c.frames 0)) up) slot a
 
@@ -86,10 +94,11 @@ set_variable c up slot a = set_home c (slice_get (blocks_of (frame_of c.frames 0
 abbrev pub standing : ℕ → Scene → Scene
 standing n c = record c { frames = change_at c.frames (length c.frames - 1) (λ f. record f { at = n }) }
 
--- one more frame, and one less
+-- the scene with one more frame, the innermost
 abbrev pub push_frame : Frame → Scene → Scene
 push_frame f c = record c { frames = c.frames ++ f ∷ [] }
 
+-- the scene without its innermost frame
 abbrev pub pop_frame : Scene → Scene
 pop_frame c = record c { frames = take (length c.frames - 1) c.frames }
 

@@ -1,3 +1,4 @@
+-- Definition, which public contracts cite.
 -- A machine as its fields, without the events that it has told, which a watcher has.
 use Rattle.std.specs.Prelude.{ℕ, List, []}
 use Rattle.pd_values.specs.declared.value.Value.{Value}
@@ -9,6 +10,7 @@ use Rattle.pd_values.specs.declared.value.End.{End}
 use Rattle.pd_values.specs.declared.value.End.TheVariants.{Killed}
 use Rattle.pd_machine.specs.Events.{Scene, end_of}
 
+-- a machine: what is done next, what waits, the frames, the variables, the output, the number of events, and the fuel
 pub record Held : Type 0 where
   pub mode : Mode
   -- what waits, the innermost first
@@ -24,6 +26,7 @@ pub record Held : Type 0 where
   pub left : ℕ
   pub fuel : ℕ
 
+-- the frames of the machine and the variables of main blocks
 abbrev pub scene_of : Held → Scene
 scene_of m = record { frames = m.frames; mains = m.mains }
 
@@ -32,6 +35,7 @@ abbrev pub IsOverAt : Mode → List Pending → Type 0
 IsOverAt (Coming r) [] = Unit {0}
 IsOverAt _ _ = ⊥
 
+-- the run is over: a result has come, and nothing waits for it
 abbrev pub IsOver : Held → Type 0
 IsOver m = IsOverAt m.mode m.stack
 

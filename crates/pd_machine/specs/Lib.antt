@@ -1,2 +1,3 @@
+-- Definitions, which public contracts cite.
 pub mod Events
 pub mod Held

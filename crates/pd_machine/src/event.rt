@@ -4,18 +4,26 @@ use pd_values::{Fault, NodeId, Value};
 /// Why an activation ended without a value.
 #[derive(Clone, Copy, Drop)]
 pub enum Cause {
+    /// A `return` on its way to the body that takes it.
     Returning,
+    /// A `break` on its way to the loop that takes it.
     Breaking,
+    /// A `continue` on its way to the loop that takes it.
     Continuing,
+    /// A fault, which ends the run.
     Faulting(Fault),
+    /// A verdict on its way to a frame that is entered again or gives another value.
     Unwinding,
 }
 
-/// What happens to an activation: it begins, or ends with a value or without one.
+/// What happens to an activation, which is one evaluation of a node with tags.
 #[derive(Drop)]
 pub enum EventKind {
+    /// It begins.
     Enter,
+    /// It ends with this value.
     Return(Value),
+    /// It ends without a value.
     Leave(Cause),
 }
 
@@ -30,12 +38,16 @@ pub struct Event {
     pub depth: u32,
 }
 
-/// What a watcher answers: go on, enter a frame again, give a frame's call this value, or kill the run.
-/// Frames count from the innermost, which is 0.
+/// What a watcher answers to an event. Frames count from the innermost, which is 0; a number past the outermost means
+/// the outermost.
 #[derive(Drop)]
 pub enum Verdict {
+    /// The run goes on.
     Go,
+    /// The frame of this number is entered again.
     Reenter(u32),
+    /// The call of the frame of this number gives this value.
     Return(u32, Value),
+    /// The run ends.
     Kill,
 }

@@ -11,10 +11,10 @@ use std::alloc::{AllocError, Global};
 use std::marker::Model;
 use std::mem;
 
-/// The most live frames.
+/// The most live frames, over all sources together. A call beyond it is the fault `Depth`.
 pub const MOST_FRAMES: usize = 2_000;
 
-/// The most bytes of output.
+/// The most bytes of output: 2^24. A line beyond it is the fault `OutputLong`.
 const LONGEST_OUTPUT: usize = 16_777_216;
 
 /// What a turn told: nothing, or an event.
@@ -288,6 +288,7 @@ fn end_of(came: NodeResult) -> End
     }
 }
 
+/// The end of a run that is stopped by this.
 fn end_of_cutoff(cutoff: Cutoff) -> End
     ensures { result ≡ end_of (NodeResult.Stops cutoff) }
 {
@@ -297,6 +298,7 @@ fn end_of_cutoff(cutoff: Cutoff) -> End
     }
 }
 
+/// The end of a run that is over, by its mode; `Killed` for a mode in which no run is over.
 fn end_at(mode: Mode) -> End
     ensures { result ≡ end_at mode }
 {

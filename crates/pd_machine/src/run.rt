@@ -7,20 +7,28 @@ use std::alloc::{AllocError, Global};
 /// What stops a run before its end.
 #[derive(Clone, Copy, Drop)]
 pub enum Cutoff {
+    /// A node was to be entered, and no fuel was left.
     SpentFuel,
+    /// A verdict killed the run.
     WasKilled,
 }
 
-/// What a node comes to. `Unwinds` goes to the frame of this number, where 0 is the outermost: it
-/// enters that frame again, or gives its call the value.
+/// What a node comes to.
 #[derive(Drop)]
 pub enum NodeResult {
+    /// Its value.
     Gives(Value),
+    /// A `return` of this value, for the body around it.
     Returns(Value),
+    /// A `break`, for the loop around it.
     Breaks,
+    /// A `continue`, for the loop around it.
     Continues,
+    /// This fault, which happened at this node.
     Faults(Fault, NodeId),
+    /// To the frame of this number, where 0 is the outermost: it is entered again, or its call gives the value.
     Unwinds(u32, Option<Value>),
+    /// The run stops.
     Stops(Cutoff),
 }
 
@@ -68,12 +76,14 @@ pub enum Pending {
     Dropping,
 }
 
-/// A node is to be entered, a node that was entered is to do its work, or a result is to go to what
-/// waits for it.
+/// What is done next.
 #[derive(Drop)]
 pub enum Mode {
+    /// The node is to be entered.
     Entering(NodeId),
+    /// The node was entered, and is to do its work.
     Starting(NodeId),
+    /// The result goes to what waits for it.
     Coming(NodeResult),
 }
 

@@ -27,7 +27,7 @@ impl<'a> Model for Scene<'a> {
 }
 
 impl<'a> Scene<'a> {
-    /// The scene of these frames, the outermost first, at an event of this node.
+    /// The scene of these frames, the outermost first and at most 2,000, at an event of this node.
     pub fn of(frames: &'a [Frame], mains: &'a [Items<Value>], node: NodeId) -> Scene<'a>
         requires { length frames.now ≤ 2000 }
         ensures { result ≡ standing node (record { frames = frames.now; mains = mains.now }) }

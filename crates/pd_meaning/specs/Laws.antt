@@ -1,4 +1,4 @@
--- What holds of the meaning and of the machine, as facts that a contract can promise.
+-- Definition: what holds of the meaning and of the machine, as facts that a contract can promise.
 use Rattle.pd_machine.specs.declared.run.NodeResult.{NodeResult}
 use Rattle.pd_machine.specs.declared.run.Mode.TheVariants.{Coming}
 use Rattle.std.specs.Prelude.{◌≡◌, ℕ, ◌≤◌, [], Some}

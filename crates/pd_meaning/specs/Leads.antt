@@ -1,3 +1,4 @@
+-- For the code's proofs: no public contract needs it.
 -- Where a machine leads, when only the verdicts on the events so far are known.
 use Rattle.std.specs.Prelude.{◌≡◌, ℕ, ◌<◌, [], ◌∷◌, length, Some}
 use Rattle.pd_tree.specs.Program.{Program}

@@ -1,3 +1,5 @@
+-- Definitions, which public contracts cite: Meaning, Machine, Laws, Steps and Telling.
+-- For the proofs alone: Seen, Weight and Leads.
 pub mod Meaning
 pub mod Machine
 pub mod Seen

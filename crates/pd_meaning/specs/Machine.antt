@@ -1,3 +1,4 @@
+-- Definition, of a second form: src/reader.rt promises that it does what Meaning says, which decides.
 -- A machine with a stack of what waits, which does what a program means one turn at a time; and the outcome to which each of its states leads.
 -- A turn enters a node, or begins its work, or hands a result to what waits on top of the stack.
 use Rattle.pd_machine.specs.declared.run.Frame.{Frame}
@@ -29,15 +30,18 @@ use Rattle.pd_meaning.specs.Meaning.{Verdicts, Outcome, ends, Run, with_value, v
 
 -- ---- the states of the machine
 
+-- what is done next, what waits, and the run so far
 pub record Machine : Type 0 where
   pub mode : Mode
   -- the innermost first
   pub stack : List Pending
   pub state : State
 
+-- the machine with these parts
 abbrev pub machine : Mode → List Pending → State → Machine
 machine mode stack s = record { mode = mode; stack = stack; state = s }
 
+-- the machine whose node has come to this outcome
 abbrev pub settled : List Pending → Outcome → Machine
 settled stack (ends r s) = machine (Coming r) stack s
 
@@ -50,35 +54,43 @@ obeyed (Reenter k) m = record m { mode = Coming (Unwinds (from_outermost m.state
 obeyed (Return k a) m = record m { mode = Coming (Unwinds (from_outermost m.state.scene.frames k) (Some a)) }
 obeyed Kill m = record m { mode = Coming (Stops WasKilled) }
 
+-- a node took its fuel: one with tags tells its Enter, whose verdict is obeyed
 abbrev pub entered : Program → Verdicts → ℕ → List Tag → List Pending → State → Machine
 entered p v n [] stack s = machine (Starting n) stack s
 entered p v n (_ ∷ _) stack s =
     obeyed (verdict_on p v n Statement (length s.events)) (machine (Starting n) (Leaving n (length s.events) ∷ stack) (tell n (length s.events) Enter s))
 
+-- a node is entered: with no fuel left the run stops, else one unit is taken
 abbrev pub entering_turn : Program → Verdicts → ℕ → ℕ → List Pending → State → Machine
 entering_turn p v zero n stack s = machine (Coming (Stops SpentFuel)) stack s
 entering_turn p v (suc left) n stack s = entered p v n (node_at p n).tags stack (record s { left = left })
 
+-- a call begins with this frame: its root is entered
 abbrev pub call_begun : Frame → List Pending → State → Machine
 call_begun f stack s = machine (Entering f.root) (InCall (length s.scene.frames) f ∷ stack) (record s { scene = push_frame f s.scene })
 
+-- a call begins where there is room for its frame, and is the fault `Depth` where there isn't
 abbrev pub depth_checked : Bool → ℕ → Frame → List Pending → State → Machine
 depth_checked true n f stack s = call_begun f stack (record s { scene = standing n s.scene })
 depth_checked false n f stack s = machine (Coming (Faults Depth n)) stack s
 
+-- a call begins with these variables, or is the fault that its arguments are
 abbrev pub arguments_checked : ℕ → ℕ → Node → Result (List Value) Fault → List Pending → State → Machine
 arguments_checked n root node (Err f) stack s = machine (Coming (Faults f n)) stack s
 arguments_checked n root node (Ok variables) stack s =
     depth_checked (nat_lt (length s.scene.frames) most_frames) n (frame_for root node variables s.scene) stack s
 
+-- an item is called: `println` writes its first argument, a function or procedure begins with its variables
 abbrev pub item_called : Program → ℕ → Option ℕ → List Value → List Pending → State → Machine
 item_called p n None arguments stack s = settled stack (written n (show (item_names p) (first_or_null arguments)) (first_or_null arguments) s)
 item_called p n (Some root) arguments stack s = arguments_checked n root (node_at p root) (first_variables (node_at p root) arguments) stack s
 
+-- a call of SL: the first value is the callee, and must be a function
 abbrev pub value_called : Program → ℕ → List Value → List Pending → State → Machine
 value_called p n (Func i ∷ arguments) stack s = item_called p n (item_at p i).root arguments stack s
 value_called p n _ stack s = machine (Coming (Faults WrongKind n)) stack s
 
+-- a `call` of PL/0, whose name must mean an item; its value is dropped
 abbrev pub name_called : Program → ℕ → Meaning → List Pending → State → Machine
 name_called p n (Means i) stack s = item_called p n (item_at p i).root [] (Dropping ∷ stack) s
 name_called p n _ stack s = machine (Coming (Faults Undefined n)) stack s
@@ -94,27 +106,33 @@ abbrev pub part_begun : Program → ℕ → ℕ → Option ℕ → List Value �
 part_begun p n i None values stack s = combining p n (node_at p n).kind values stack s
 part_begun p n i (Some m) values stack s = machine (Entering m) (Operand n values (i + 1) ∷ stack) s
 
+-- the parts from place i on are entered one after another, and then the node does its work
 abbrev pub parts_begun : Program → ℕ → List ℕ → ℕ → List Value → List Pending → State → Machine
 parts_begun p n ms i values stack s = part_begun p n i (slice_get ms i) values stack s
 
+-- the last part alone is entered
 abbrev pub last_begun : List ℕ → List Pending → State → Machine
 last_begun [] stack s = machine (Coming (Gives Null)) stack s
 last_begun (m ∷ []) stack s = machine (Entering m) stack s
 last_begun (m ∷ k ∷ ms) stack s = last_begun (k ∷ ms) stack s
 
+-- an `if` begins with its condition
 abbrev pub choice_begun : ℕ → List ℕ → List Pending → State → Machine
 choice_begun n (c ∷ block ∷ []) stack s = machine (Entering c) (Choosing n block ∷ stack) s
 choice_begun n (c ∷ block ∷ other ∷ []) stack s = machine (Entering c) (ChoosingBetween n block other ∷ stack) s
 choice_begun n _ stack s = machine (Coming (Faults WrongKind n)) stack s
 
+-- a `while` begins with its condition
 abbrev pub loop_begun : ℕ → List ℕ → List Pending → State → Machine
 loop_begun n (test ∷ block ∷ []) stack s = machine (Entering test) (Testing n test block ∷ stack) s
 loop_begun n _ stack s = machine (Coming (Faults WrongKind n)) stack s
 
+-- an `||` (true) or an `&&` (false) begins with its left side
 abbrev pub either_begun : Bool → ℕ → List ℕ → List Pending → State → Machine
 either_begun x n (l ∷ r ∷ []) stack s = machine (Entering l) (LeftSide x n r ∷ stack) s
 either_begun x n _ stack s = machine (Coming (Faults WrongKind n)) stack s
 
+-- a node that was entered begins its work
 abbrev pub starting_turn : Program → ℕ → Kind → List ℕ → List Pending → State → Machine
 starting_turn p n (SlFunction name parameters) ms stack s = last_begun ms stack s
 starting_turn p n (PlProcedure name variables) ms stack s = last_begun ms stack s
@@ -133,6 +151,7 @@ by_truth n (Truth true) if_true if_false stack s = if_true
 by_truth n (Truth false) if_true if_false stack s = if_false
 by_truth n _ if_true if_false stack s = machine (Coming (Faults WrongKind n)) stack s
 
+-- an unwinding that has come to this frame makes the call again, and else goes on outward
 abbrev pub call_again : Bool → ℕ → Frame → List Pending → State → Machine
 call_again true m f stack s = call_begun f stack s
 call_again false m f stack s = machine (Coming (Unwinds m None)) stack s
@@ -162,16 +181,19 @@ other_came p v (InCall k f) (Unwinds m None) stack s = call_again (m == k) m f s
 other_came p v (InCall k f) r stack s = settled stack (returned k (ends r s) (λ t. ends r t))
 other_came p v _ r stack s = machine (Coming r) stack s
 
+-- a result goes to what waits on top
 abbrev pub coming_turn : Program → Verdicts → NodeResult → List Pending → State → Machine
 coming_turn p v r [] s = machine (Coming r) [] s
 coming_turn p v (Gives a) (x ∷ stack) s = value_came p v x a stack s
 coming_turn p v r (x ∷ stack) s = other_came p v x r stack s
 
+-- one turn, by what is done next
 abbrev pub mode_turn : Program → Verdicts → Mode → List Pending → State → Machine
 mode_turn p v (Entering n) stack s = entering_turn p v s.left n stack s
 mode_turn p v (Starting n) stack s = starting_turn p n (node_at p n).kind (node_at p n).children stack s
 mode_turn p v (Coming r) stack s = coming_turn p v r stack s
 
+-- one turn of the machine
 unfoldable pub turn : Program → Verdicts → Machine → Machine
 turn p v m = mode_turn p v m.mode m.stack m.state
 
@@ -192,6 +214,7 @@ after_turns p v (suc k) m = after_turns p v k (turn p v m)
 abbrev pub whole : Program → Verdicts → Run
 whole p v n s = evaluated p v s.left n s
 
+-- the outcome of the right side of an `||` or an `&&`: a truth value
 abbrev pub right_outcome : Program → Verdicts → ℕ → ℕ → State → Outcome
 right_outcome p v n r u = right_truth (whole p v) n r u
 
@@ -212,14 +235,17 @@ resumed p v (RightSide n) o = with_value o (λ b w. on_truth n b (ends (Gives (T
 resumed p v (InCall k f) o = returned k o (λ t. invoked t.left (whole p v) f t)
 resumed p v Dropping o = with_value o (λ a t. ends (Gives Null) t)
 
+-- the outcome of the whole stack, where what is on top comes to this outcome
 abbrev pub completion : Program → Verdicts → List Pending → Outcome → Outcome
 completion p v [] o = o
 completion p v (x ∷ stack) o = completion p v stack (resumed p v x o)
 
+-- the outcome of what is done next alone
 abbrev pub mode_outcome : Program → Verdicts → Mode → State → Outcome
 mode_outcome p v (Entering n) s = whole p v n s
 mode_outcome p v (Starting n) s = inside p s.left (whole p v) n (node_at p n).kind (node_at p n).children s
 mode_outcome p v (Coming r) s = ends r s
 
+-- the outcome to which the machine leads
 unfoldable pub point : Program → Verdicts → Machine → Outcome
 point p v m = completion p v m.stack (mode_outcome p v m.mode m.state)

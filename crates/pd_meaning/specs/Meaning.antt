@@ -1,4 +1,4 @@
--- What a program does: its output, its events, the fuel that it uses and its end.
+-- Definition: what a program does: its output, its events, the fuel that it uses and its end.
 -- A node's meaning is made of the meanings of its parts. Each entry of a node takes one unit of fuel. So the fuel bounds how deep
 -- entries stand in one another, how often a loop turns and how often a call is made again, and each recursion goes down such a bound.
 -- Where a bound is at least the fuel that is left, its size makes no difference.
@@ -39,6 +39,7 @@ Verdicts = List (ℕ × Verdict)
 
 -- ---- results: what a node comes to, with the state that it leaves
 
+-- what a node comes to, and the run then
 pub data Outcome : Type 0 where
   ends : NodeResult → State → Outcome
 
@@ -58,6 +59,7 @@ answered n (Err f) s = ends (Faults f n) s
 
 -- ---- entry: with no fuel left the run stops; otherwise one unit is taken
 
+-- what is done where a unit of fuel is there to be taken; else the run stops
 abbrev pub with_fuel : ℕ → (State → Outcome) → State → Outcome
 with_fuel zero go s = ends (Stops SpentFuel) s
 with_fuel (suc left) go s = go (record s { left = left })
@@ -87,11 +89,12 @@ abbrev pub parts : Run → List ℕ → List Value → (List Value → State →
 parts run [] values rule s = rule values s
 parts run (m ∷ ms) values rule s = with_value (run m s) (λ a t. parts run ms (values ++ a ∷ []) rule t)
 
--- a rule on one value and on two; no node has another number of parts
+-- a rule on the value of one part; a node with another number of parts is never read
 abbrev pub on_one : ℕ → List Value → (Value → State → Outcome) → State → Outcome
 on_one n (a ∷ []) rule s = rule a s
 on_one n _ rule s = ends (Faults WrongKind n) s
 
+-- a rule on the values of two parts; a node with another number of parts is never read
 abbrev pub on_two : ℕ → List Value → (Value → Value → State → Outcome) → State → Outcome
 on_two n (a ∷ b ∷ []) rule s = rule a b s
 on_two n _ rule s = ends (Faults WrongKind n) s
@@ -132,14 +135,16 @@ turns zero run n c block s = ends (Stops SpentFuel) s
 turns (suc bound) run n c block s =
     with_value (run c s) (λ a t. on_truth n a (λ u. after_turn (run block u) (turns bound run n c block)) (ends (Gives Null)) t)
 
+-- a `while`: its condition and its block in turns
 abbrev pub loop : ℕ → Run → ℕ → List ℕ → State → Outcome
 loop bound run n (c ∷ block ∷ []) s = turns bound run n c block s
 loop bound run n _ s = ends (Faults WrongKind n) s
 
--- `||` and `&&`: the right side only where the left one doesn't decide
+-- the right side of an `||` or an `&&`, which must be a truth value
 abbrev pub right_truth : Run → ℕ → ℕ → State → Outcome
 right_truth run n r s = with_value (run r s) (λ b t. on_truth n b (ends (Gives (Truth true))) (ends (Gives (Truth false))) t)
 
+-- an `||` (true) or an `&&` (false): the right side is evaluated where the left one doesn't decide
 abbrev pub either_side : Bool → Run → ℕ → List ℕ → State → Outcome
 either_side true run n (l ∷ r ∷ []) s = with_value (run l s) (λ a t. on_truth n a (ends (Gives (Truth true))) (right_truth run n r) t)
 either_side false run n (l ∷ r ∷ []) s = with_value (run l s) (λ a t. on_truth n a (right_truth run n r) (ends (Gives (Truth false))) t)
@@ -153,6 +158,7 @@ named n (Local up slot) s = ends (Gives (unwrap_or (scene_value s.scene 0 up slo
 named n (Means i) s = ends (Gives (Func i)) s
 named n Nothing s = ends (Faults Undefined n) s
 
+-- a value is assigned to what a name means; a name of no variable changes nothing
 abbrev pub assigned : Meaning → Value → State → State
 assigned (Local up slot) a s = record s { scene = set_variable s.scene up slot a }
 assigned (Means i) a s = s
@@ -171,6 +177,7 @@ written n bytes a s =
 
 -- ---- exit: a value gives Return, on which a call's verdict may stand; a jump, fault or unwinding gives Leave; a stop gives no event
 
+-- the end of an activation: its Return or Leave is told, and the verdict on a call's Return is heeded
 abbrev pub exit : Program → Verdicts → ℕ → ℕ → Outcome → Outcome
 exit p v n opened (ends (Gives a) s) = heed (verdict_on p v n Call (length s.events)) (λ t. ends (Gives a) t) (tell n opened (Gave a) s)
 exit p v n opened (ends (Returns a) s) = ends (Returns a) (tell n opened (Leave Returning) s)
@@ -188,10 +195,11 @@ activation p v n (_ ∷ _) rule s =
 
 -- ---- calls
 
--- the frame is removed; an unwinding to this very frame makes the call again, or gives the call a value
+-- the innermost frame is removed
 abbrev pub popped : State → State
 popped s = record s { scene = pop_frame s.scene }
 
+-- the end of a call, whose frame k is removed; an unwinding to this very frame makes the call again, or gives its value
 abbrev pub returned : ℕ → Outcome → (State → Outcome) → Outcome
 returned k (ends (Unwinds m None) s) again = elim (m == k) [ true ↦ again (popped s) | false ↦ ends (Unwinds m None) (popped s) ]
 returned k (ends (Unwinds m (Some a)) s) again = ends (if m == k then Gives a else Unwinds m (Some a)) (popped s)
@@ -204,6 +212,7 @@ invoked zero run f s = ends (Stops SpentFuel) s
 invoked (suc bound) run f s =
     returned (length s.scene.frames) (run f.root (record s { scene = push_frame f s.scene })) (invoked bound run f)
 
+-- the first argument, or NULL where there is none
 abbrev pub first_or_null : List Value → Value
 first_or_null [] = Null
 first_or_null (a ∷ _) = a
@@ -222,6 +231,7 @@ parameter_values names values (x ∷ xs) arguments =
 abbrev pub filled : ℕ → Value → List Value → List Value
 filled size a values = values ++ replicate (size - length values) a
 
+-- whether each value is a number
 abbrev pub all_numbers : List Value → Bool
 all_numbers [] = true
 all_numbers (Number z ∷ xs) = all_numbers xs
@@ -321,12 +331,14 @@ evaluated p v (suc bound) n s =
 
 -- ---- the whole run
 
+-- what a run leaves: its output, its events, the fuel that it used, and its end
 pub record Ran : Type 0 where
   pub output : List ℕ
   pub events : List Told
   pub used : ℕ
   pub finish : End
 
+-- what a run with this fuel leaves that came to this outcome
 abbrev pub ran : ℕ → Outcome → Ran
 ran fuel (ends r s) = record { output = s.output; events = s.events; used = fuel - s.left; finish = end_of r }
 
@@ -335,6 +347,7 @@ abbrev pub main_variables : Program → Option ℕ → List Value
 main_variables p None = []
 main_variables p (Some root) = replicate (node_at p root).slots (Number (pos 0))
 
+-- the run before its first node: no frames, and the variables of the main blocks at 0
 abbrev pub opening : Program → ℕ → State
 opening p fuel = record { scene = record { frames = []; mains = map (main_variables p) p.mains }; output = []; events = []; left = fuel }
 

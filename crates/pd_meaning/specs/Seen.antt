@@ -1,3 +1,4 @@
+-- No contract of this version cites it.
 -- What a frame sees at an event: the names and values by which conditions, stops and records read it.
 use Rattle.std.specs.Prelude.{ℕ, List, [], map, Option, None, Some, unwrap_or}
 use Rattle.pd_values.specs.declared.value.Value.{Value}
@@ -12,5 +13,6 @@ abbrev pub seen_from : Program → Scene → ℕ → Option Frame → List (List
 seen_from p c i None = []
 seen_from p c i (Some f) = map (λ x. (x.name, unwrap_or (scene_value c i x.up x.slot) Null)) (node_at p f.at).sees
 
+-- the variables that frame i sees, each with its value
 abbrev pub seen_by : Program → Scene → ℕ → List (List ℕ × Value)
 seen_by p c i = seen_from p c i (frame_of c.frames i)

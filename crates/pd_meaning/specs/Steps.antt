@@ -1,14 +1,16 @@
--- How the machine that runs stands for the pure one, and what it means that a call does a step of the pure one.
+-- Definition: how the machine that runs stands for the pure one, and what it means that a call does a step of the pure
+-- one.
 use Rattle.std.specs.Prelude.{◌≡◌, List}
 use Rattle.pd_machine.specs.declared.run.Pending.{Pending}
 use Rattle.pd_machine.specs.Events.{State, Told}
 use Rattle.pd_machine.specs.Held.{Held, scene_of}
 use Rattle.pd_meaning.specs.Machine.{Machine, machine}
 
--- the state, and the pure machine, that a machine stands for which has told these events
+-- the state for which a machine stands that has told these events
 abbrev pub state_of : Held → List Told → State
 state_of m es = record { scene = scene_of m; output = m.output; events = es; left = m.left }
 
+-- the machine that is kept, together with the events that it told
 abbrev pub with_events : Held → List Told → Machine
 with_events m es = machine m.mode m.stack (state_of m es)
 

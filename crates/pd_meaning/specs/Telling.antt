@@ -1,4 +1,4 @@
--- A call that may tell an event does a step of the pure machine; and the verdict that is due on that event.
+-- Definition: a call that may tell an event does a step of the pure machine; and the verdict that is due on that event.
 use Rattle.std.specs.Prelude.{◌≡◌, ℕ, zero, suc, ◌+◌, Bool, false, if◌then◌else◌, List, [], ◌∷◌, ◌++◌, length}
 use Rattle.pd_values.specs.declared.value.Tag.{Tag}
 use Rattle.pd_values.specs.declared.value.Tag.TheVariants.{Statement, Call}
@@ -22,23 +22,28 @@ use Rattle.pd_meaning.specs.Steps.{state_of, with_events}
 
 -- ---- the verdict that a run is given on the event which the next turn tells, where it is one at which verdicts count
 
+-- the verdict that is due on the Enter of a node, which has the number e; a node without tags has none
 abbrev pub due_on_tags : Program → Verdicts → ℕ → List Tag → ℕ → Verdict
 due_on_tags p v n [] e = Go
 due_on_tags p v n (t ∷ ts) e = verdict_on p v n Statement e
 
+-- the same, where so much fuel is left
 abbrev pub due_on_enter : Program → Verdicts → ℕ → ℕ → List Tag → ℕ → Verdict
 due_on_enter p v zero n tags e = Go
 due_on_enter p v (suc left) n tags e = due_on_tags p v n tags e
 
+-- the verdict that is due on the Return of the activation that waits on top
 abbrev pub due_on_value : Program → Verdicts → List Pending → ℕ → Verdict
 due_on_value p v (Leaving n opened ∷ stack) e = verdict_on p v n Call e
 due_on_value p v _ e = Go
 
+-- the verdict that is due on the event that the next turn tells, if it tells one
 abbrev pub due_at : Program → Verdicts → Mode → List Pending → ℕ → ℕ → Verdict
 due_at p v (Entering n) stack left e = due_on_enter p v left n (node_at p n).tags e
 due_at p v (Coming (Gives a)) stack left e = due_on_value p v stack e
 due_at p v _ stack left e = Go
 
+-- the same, of a machine
 abbrev pub due : Program → Verdicts → Machine → Verdict
 due p v m = due_at p v m.mode m.stack m.state.left (length m.state.events)
 
@@ -60,6 +65,7 @@ abbrev pub events_after : List Told → Turn → Held → List Told
 events_after es Quiet m = es
 events_after es (Tells e) m = es ++ record { event = e; scene = standing e.node (scene_of m) } ∷ []
 
+-- the number of events after a turn
 abbrev pub count_after : ℕ → Turn → ℕ
 count_after n Quiet = n
 count_after n (Tells e) = n + 1

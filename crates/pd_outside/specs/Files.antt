@@ -1,4 +1,4 @@
--- Files by name, and what failed calls were asked for.
+-- Definition: files by name, and what failed calls were asked for.
 use Rattle.std.specs.Prelude.{ℕ, List, [], ◌∷◌, Option, None, Some, Vec, String, string_bytes, find}
 use Rattle.std.specs.Option.{option_map}
 use Rattle.std.specs.Str.{bytes_eq}

@@ -1,3 +1,4 @@
+-- Definitions, which public contracts cite.
 pub mod Files
 pub mod MemoryLibrary
 pub mod MemorySink

@@ -19,7 +19,7 @@ pub struct FolderLibrary<'a, R: Files> {
 }
 
 impl<'a, R: Files> FolderLibrary<'a, R> {
-    /// The files that this runtime opens. No call has failed yet.
+    /// The files that this runtime opens. No call on them has failed.
     pub fn new(rt: &'a R) -> FolderLibrary<'a, R> {
         FolderLibrary {
             rt,
@@ -28,7 +28,7 @@ impl<'a, R: Files> FolderLibrary<'a, R> {
     }
 }
 
-// The first bytes of a file, at most `limit` of them; what lies behind them isn't read.
+// The first bytes of a file, at most `limit` of them; what lies after them isn't read.
 fn read_front<R: Files>(rt: &R, alloc: Global, name: &str, limit: u32) -> io::Result<Vec<u8>>
     ensures { IfOk result (λ bytes. vec_len bytes ≤ limit) }
 {

@@ -7,7 +7,7 @@ use std::alloc::Global;
 
 /// What gives the bytes of a file by its name. Names and contents are lists of bytes.
 pub trait Library {
-    /// The content of each file by its name, where the library tells that.
+    /// The content of each file by its name; `None` of a library that doesn't tell that, as real files.
     ghost held: { Self → Option (List ℕ → Option (List ℕ)) };
 
     /// How many of its calls have failed.
@@ -17,7 +17,7 @@ pub trait Library {
     ghost last_fault: { Self → Option (List ℕ) };
 
     /// The first bytes of the file with this name, at most `limit` of them. A name that it doesn't hold is
-    /// a fault. Want of memory is free and is no fault.
+    /// a fault. Memory may run out at any call: then `FetchFault::Memory`, which is no fault of the library.
     fn fetch(&mut self, alloc: Global, name: &str, limit: u32) -> Result<Vec<u8>, FetchFault>
         ensures limit { IfOk result (λ bytes. vec_len bytes ≤ limit) }
         ensures content { IfOk result (λ bytes. IfSome (held self.old) (λ file.

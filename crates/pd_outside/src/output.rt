@@ -14,7 +14,7 @@ pub struct OutputSink<W: Write + Drop> {
 }
 
 impl<W: Write + Drop> OutputSink<W> {
-    /// A sink over this writer. No call has failed yet.
+    /// A sink over this writer, of which no call has failed.
     pub fn new(out: W) -> OutputSink<W> {
         OutputSink {
             out,

@@ -6,7 +6,7 @@ use crate::fault::Failed;
 
 /// What takes bytes, piece after piece.
 pub trait Sink {
-    /// The bytes that it has taken, where it tells that.
+    /// The bytes that it has taken; `None` of a sink that doesn't tell that, as a real output.
     ghost taken: { Self → Option (List ℕ) };
 
     /// How many of its calls have failed.

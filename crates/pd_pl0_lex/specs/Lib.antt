@@ -1,2 +1,3 @@
+-- For the proofs alone: no public contract cites it.
 pub mod Scan
 pub mod Scanning

@@ -13,7 +13,8 @@ ghost use Rattle.pd_pl0_lex.specs.Scan.{found_from, found_in};
 use pd_sections::{Lexicon, MOST_BYTES, Piece, Refusal, Source, Stop, TokenKind, Tokens};
 use std::alloc::Global;
 
-/// The tokens of a PL/0 source, or its first offending place: a byte that starts no token.
+/// The tokens of a PL/0 source, or its first offending place: a byte that starts no token. docs/LANGUAGES.md has the
+/// tokens.
 pub fn lex(alloc: Global, source: &Source) -> Result<Tokens, Stop<Refusal>>
     ensures tokens { IfOk result (Splits pl0_piece source.now.bytes) }
     ensures refused { IfErr result (StopsAt pl0_piece source.now.bytes) }

@@ -1,4 +1,4 @@
--- The nodes of a source as they are added to its tree.
+-- Definition: the nodes of a source as they are added to its tree.
 use Rattle.std.specs.Prelude.{◌≡◌, ℕ, ◌+◌, ◌*◌, ◌<◌, ◌^◌, List, [], ◌∷◌, ◌++◌, length, slice_index_or, codes}
 use Rattle.std.specs.Str.{IsUtf8}
 use Rattle.pd_sections.specs.declared.Token.{Token}
@@ -33,6 +33,7 @@ pub record AreNames (bytes : List ℕ) (tokens : List Token) (first step n : ℕ
 abbrev pub AreVariables : List ℕ → List Token → ℕ → ℕ → ℕ → List (List ℕ) → Type 0
 AreVariables bytes tokens first m n names = AreNames bytes tokens (first_variable first m) 2 n names
 
+-- the kind of a node with this shape whose first token is `first`, with the texts of its own tokens
 abbrev pub KindIs : List ℕ → List Token → Shape → ℕ → Kind → Type 0
 KindIs bytes tokens (shapes.Main m n) first k = (names : List (List ℕ)) × (k ≡ PlProcedure (codes "main") names) × AreVariables bytes tokens first m n names
 KindIs bytes tokens (shapes.Procedure m n) first k =
@@ -52,6 +53,7 @@ KindIs bytes tokens shapes.Minus first k = k ≡ PlMinus
 KindIs bytes tokens (shapes.Name m) first k = (name : List ℕ) × (k ≡ PlName name) × IsText (text_at bytes tokens first) name
 KindIs bytes tokens (shapes.Number v) first k = k ≡ PlNumber v
 
+-- what a node's name means, where its shape says it
 abbrev pub meaning_in : Shape → Meaning
 meaning_in (shapes.Assign m) = m
 meaning_in (shapes.Name m) = m

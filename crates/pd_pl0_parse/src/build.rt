@@ -54,6 +54,7 @@ pub fn parse(
     ensures spelled { IfOk result (IsTreeOf room source.now.bytes tokens.now number) }
     ensures refused { IfErr result (StopsFor room source.now.bytes tokens.now) }
 {
+    // For the contract: `bytes` says that a source has at most 1,048,576 bytes, all of them UTF-8.
     let _ = source.bytes();
     let nodes = match parts_of(alloc, source, tokens, room) {
         Ok(nodes) => nodes,

@@ -54,7 +54,7 @@ fn every_second(
     Ok(Items::of(names))
 }
 
-/// The first token behind `var` in a block that begins at this token and has so many constants.
+/// The first token after `var` in a block that begins at this token and has so many constants.
 fn first_variable(first: usize, constants: u32) -> usize
     requires { first < 2 ^ 33 }
     ensures value { result ≡ first_variable first constants }

@@ -11,7 +11,7 @@ use pd_sections::{Section, Source, Token, TokenKind, Tokens};
 use pd_values::Text;
 use std::alloc::{AllocError, Global};
 
-/// What stands for a token behind the last one.
+/// What stands for a token after the last one.
 const NO_TOKEN: Token = Token {
     kind: TokenKind::Name,
     start: 0,
@@ -24,6 +24,7 @@ pub fn token_at(source: &Source, tokens: &Tokens, i: usize) -> Token
     ensures token { result ≡ token_at tokens.now i }
     ensures within { result.start + result.len ≤ length source.now.bytes }
 {
+    // Only the contract reads `source`: its clauses speak of the source's bytes.
     let _ = source;
     if i < tokens.len() as usize {
         tokens.get(i as u32)
@@ -74,7 +75,7 @@ pub fn section_of(source: &Source, number: u32, tokens: &Tokens, part: Part) -> 
     }
 }
 
-/// The characters of these bytes, which are UTF-8.
+/// The characters of these bytes, which are UTF-8; of bytes that aren't the empty text.
 pub fn characters(alloc: Global, bytes: &[u8]) -> Result<Text, AllocError>
     ensures { IfOk result (λ text. IsText bytes.now text) }
 {

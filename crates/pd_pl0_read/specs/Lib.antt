@@ -1,3 +1,5 @@
+-- Definitions, which public contracts cite: Tokens, Resolving, Places and Answers.
+-- For the proofs alone: Entries, Held and Behind.
 pub mod Tokens
 pub mod Resolving
 pub mod Places

@@ -1,4 +1,4 @@
--- Where the parts of a program stand, by the numbers of its words, and its nodes, each behind its parts.
+-- Definition: where the parts of a program stand, by the numbers of its words, and its nodes, each after its parts.
 use Rattle.std.specs.Prelude.{ℕ, ◌+◌, ◌*◌, List, [], ◌∷◌, ◌++◌, length}
 use Rattle.pd_tree.specs.declared.kind.Operator.{Operator}
 use Rattle.pd_tree.specs.declared.kind.Operator.TheVariants as operators
@@ -12,9 +12,11 @@ use Rattle.pd_pl0_read.specs.declared.parts.Shape.{Shape}
 use Rattle.pd_pl0_read.specs.declared.parts.Shape.TheVariants as shapes
 use Rattle.pd_pl0_read.specs.Resolving.{value_of, literal, constants_declared, variables_declared, procedures_declared, declared_by, resolved, meaning_of, factor_of}
 
+-- a node of this shape from its first word up to `end`, with so many parts
 abbrev pub node : Shape → ℕ → ℕ → ℕ → Node Part
 node shape first end parts = record { what = record { shape = shape; first = first; end = end }; parts = parts }
 
+-- the operator of a comparison
 abbrev pub comparison : Comparing → Operator
 comparison Equal = operators.Equal
 comparison NotEqual = operators.NotEqual
@@ -23,33 +25,36 @@ comparison LessEq = operators.LessEq
 comparison Greater = operators.Greater
 comparison GreaterEq = operators.GreaterEq
 
+-- the operator of a `+` or `-`
 abbrev pub addition : Adding → Operator
 addition Plus = operators.Add
 addition Minus = operators.Sub
 
+-- the shape of a sign
 abbrev pub sign : Adding → Shape
 sign Plus = shapes.Plus
 sign Minus = shapes.Minus
 
+-- the operator of a `*` or `/`
 abbrev pub multiplication : Multiplying → Operator
 multiplication Times = operators.Mul
 multiplication Over = operators.Div
 
--- the place behind a block's constants: `const`, and four words for each
+-- the place after a block's constants: `const`, and four words for each
 abbrev pub constants_end : ℕ → List Constant → ℕ
 constants_end i [] = i
 constants_end i (c ∷ cs) = (i + 4 * length (c ∷ cs)) + 1
 
--- the place behind a block's variables: `var`, and two words for each
+-- the place after a block's variables: `var`, and two words for each
 abbrev pub variables_end : ℕ → List (List ℕ) → ℕ
 variables_end i [] = i
 variables_end i (x ∷ xs) = (i + 2 * length (x ∷ xs)) + 1
 
--- the place behind the declarations of constants and variables of a block that begins at `i`
+-- the place after the declarations of constants and variables of a block that begins at `i`
 abbrev pub declarations_end : ℕ → List Constant → List (List ℕ) → ℕ
 declarations_end i cs vs = variables_end (constants_end i cs) vs
 
--- The place behind a tree whose first word is at `i`. An empty statement has no word.
+-- The place after a tree whose first word is at `i`. An empty statement has no word.
 abbrev mutual
   pub end_of : ℕ → Tree → ℕ
   end_of i (name x) = i + 1
@@ -70,16 +75,17 @@ abbrev mutual
   end_of i (block cs vs ps a) = end_of (procedures_end (declarations_end i cs vs) ps) a
   end_of i (procedure x b) = end_of (((i + 1) + 1) + 1) b
 
-  -- behind statements, each of which has `begin` or `;` before it
+  -- after statements, each of which has `begin` or `;` before it
   pub statements_end : ℕ → Trees → ℕ
   statements_end i none = i
   statements_end i (also t ts) = statements_end (end_of (i + 1) t) ts
 
-  -- behind procedures, each with its `;`
+  -- after procedures, each with its `;`
   pub procedures_end : ℕ → Trees → ℕ
   procedures_end i none = i
   procedures_end i (also t ts) = procedures_end (end_of i t + 1) ts
 
+-- the number of the trees
 abbrev pub count : Trees → ℕ
 count none = 0
 count (also t ts) = count ts + 1
@@ -122,10 +128,12 @@ abbrev mutual
   -- a procedure has a block
   post s i (procedure x b) = post s (((i + 1) + 1) + 1) b
 
+  -- and of statements, each with `begin` or `;` before it
   pub statement_posts : Scope → ℕ → Trees → List (Node Part)
   statement_posts s i none = []
   statement_posts s i (also t ts) = post s (i + 1) t ++ statement_posts s (end_of (i + 1) t) ts
 
+  -- and of procedures, each with its `;`
   pub procedure_posts : Scope → ℕ → Trees → List (Node Part)
   procedure_posts s i none = []
   procedure_posts s i (also t ts) = post s i t ++ procedure_posts (declared_by t s) (end_of i t + 1) ts
@@ -134,9 +142,11 @@ abbrev mutual
 abbrev pub part : Shape → ℕ → ℕ → Part
 part s first end = record { shape = s; first = first; end = end }
 
+-- one part
 abbrev pub one : Rose Part → Roses Part
 one a = Turned.also a Turned.none
 
+-- two parts
 abbrev pub two : Rose Part → Rose Part → Roses Part
 two a b = Turned.also a (one b)
 
@@ -172,18 +182,20 @@ abbrev mutual
       (procedure_trees inside first ps (rose (part shapes.Body body (end_of body a)) (one (tree (procedures_declared ps inside) body a))))
   tree s i (procedure x b) = tree s (((i + 1) + 1) + 1) b
 
-  -- procedures, and the body behind them
+  -- procedures, and the body after them
   pub procedure_trees : Scope → ℕ → Trees → Rose Part → Roses Part
   procedure_trees s i none body = one body
   procedure_trees s i (also t ts) body = Turned.also (tree s i t) (procedure_trees (declared_by t s) (end_of i t + 1) ts body)
 
+  -- and of statements, each with `begin` or `;` before it
   pub statement_trees : Scope → ℕ → Trees → Roses Part
   statement_trees s i none = Turned.none
   statement_trees s i (also t ts) = Turned.also (tree s (i + 1) t) (statement_trees s (end_of (i + 1) t) ts)
 
--- a program's nodes behind their parts, and as a tree
+-- a program's nodes after their parts, and as a tree
 abbrev pub program_posts : Tree → List (Node Part)
 program_posts T = post no_declarations 0 T
 
+-- a program as one tree
 abbrev pub program_trees : Tree → Roses Part
 program_trees T = one (tree no_declarations 0 T)

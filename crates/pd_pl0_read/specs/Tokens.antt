@@ -1,4 +1,4 @@
--- The words of tokens.
+-- Definition: the words of tokens.
 use Rattle.std.specs.Prelude.{ℕ, zero, suc, ◌+◌, ◌-◌, ◌*◌, ◌==◌, if◌then◌else◌, List, [], ◌∷◌, length, take, drop, map, slice_index}
 use Rattle.pd_sections.specs.declared.Token.{Token}
 use Rattle.pd_sections.specs.declared.TokenKind.{TokenKind}
@@ -49,9 +49,11 @@ pair first =
     else if first == 60 then Compares LessEq
     else Compares GreaterEq
 
+-- the word of a symbol
 abbrev pub symbol : List ℕ → Word
 symbol text = if length text == 1 then single (slice_index text 0) else pair (slice_index text 0)
 
+-- the word of a token of this kind with this text
 abbrev pub word_of : TokenKind → List ℕ → Word
 word_of kinds.Name text = Name text
 word_of kinds.Number text = Number (decimal 0 text)
@@ -60,16 +62,19 @@ word_of kinds.Symbol text = symbol text
 -- PL/0 has no such token
 word_of kinds.Text text = symbol text
 
+-- the bytes of a token
 abbrev pub text_of : List ℕ → Token → List ℕ
 text_of bytes token = take token.len (drop token.start bytes)
 
+-- the word of a token of this source
 abbrev pub word_at : List ℕ → Token → Word
 word_at bytes token = word_of token.kind (text_of bytes token)
 
+-- the words of a source's tokens
 abbrev pub words_of : List ℕ → List Token → List Word
 words_of bytes tokens = map (word_at bytes) tokens
 
--- the first byte of a token, by its number; behind the last the length of the text
+-- the first byte of a token, by its number; after the last the length of the text
 abbrev pub place_of : List ℕ → List Token → ℕ → ℕ
 place_of bytes [] at = length bytes
 place_of bytes (token ∷ tokens) zero = token.start

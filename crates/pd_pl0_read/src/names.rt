@@ -6,10 +6,12 @@ use std::alloc::{AllocError, Global};
 use std::collections::BTreeMap;
 use std::marker::Model;
 
-/// What a name is declared as in a block: a constant with its value, a variable with its slot, or a procedure.
+/// What a name is declared as in a block.
 #[derive(Clone, Copy, Drop)]
 pub enum Declared {
+    /// A constant with this value.
     Constant(i64),
+    /// A variable in this slot of its block, counted from 0.
     Variable(u32),
     Procedure,
 }
@@ -47,7 +49,7 @@ impl Names {
         }
     }
 
-    /// Declares a name. Without memory nothing is declared.
+    /// Declares a name. Where memory runs out, nothing is declared.
     pub fn declare(&mut self, name: Vec<u8>, what: Declared) -> Result<(), AllocError>
         ensures { OnOk result (self.new ≡ inserted name.items what self.old) }
     {

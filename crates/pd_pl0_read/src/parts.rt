@@ -87,24 +87,33 @@ pub enum Keyword {
 /// What an expression is read for, with the first token of its statement or of its condition.
 #[derive(Clone, Copy, Drop)]
 pub enum Purpose {
+    /// The right side of an assignment to this variable.
     Assigned(u32, Meaning),
+    /// What `!` writes.
     Written(u32),
+    /// The operand of `odd`.
     Odd(u32),
+    /// The left side of a comparison.
     Left(u32),
+    /// The right side of this comparison.
     Right(u32, Operator),
 }
 
-/// What is open and nests: parentheses, a `begin` with the number of its whole statements so far,
-/// an `if` or `while`, each with its first token, or the block of a procedure.
+/// What is open and nests.
 #[derive(Clone, Copy, Drop)]
 pub enum Frame {
+    /// A `(`, with what waits around it.
     Parens(Levels),
+    /// A `begin`: its first token, and the number of its whole statements so far.
     Sequence(u32, u32),
+    /// An `if` or `while`, with its first token.
     Heading(Keyword, u32),
+    /// The block of a procedure.
     Procedure,
 }
 
-/// An open block: its names, the numbers of its constants, variables and whole procedures so far, and the first token behind these.
+/// An open block: its names, the numbers of its constants, variables and whole procedures so far, and the first token
+/// after these.
 #[derive(Drop)]
 pub struct Block {
     pub names: Names,
@@ -126,14 +135,14 @@ pub enum Mode {
     AfterConstants,
     BeforeVariable,
     AfterVariable,
-    /// Behind the variables, or behind a procedure.
+    /// After the variables, or after a procedure.
     AfterVariables,
     BeforeProcedure,
     AfterProcedure,
     BeforeStatement,
     BeforeBecomes(u32, Meaning),
     BeforeCallee(u32),
-    /// Behind a statement that ends with `end` or a name.
+    /// After a statement that ends with `end` or a name.
     AfterStatement,
     BeforeCondition,
     BeforeExpression(Purpose),
@@ -141,6 +150,6 @@ pub enum Mode {
     Wants(Purpose, Levels),
     /// An operand has been read.
     Has(Purpose, Levels),
-    /// Behind the period.
+    /// After the period.
     Finished,
 }

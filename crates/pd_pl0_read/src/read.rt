@@ -10,7 +10,7 @@ use pd_sections::{Refusal, Rule, Source, Stop, Tokens};
 use pd_turn::{Node, before};
 use std::alloc::Global;
 
-/// The nodes of the one tree that the tokens spell, each behind its parts.
+/// The nodes of the one tree that the tokens spell, each after its parts.
 fn nodes_of(
     alloc: Global,
     source: &Source,
@@ -45,6 +45,7 @@ fn nodes_of(
 
 /// The nodes of the one tree that the tokens spell within the rules, each before its parts, or the first breach of a
 /// rule: at the first byte of a token, or at the source's length. `room` is the number of nodes that may still be made.
+/// Memory may run out at any point: then `Stop::Memory`.
 pub fn parts_of(
     alloc: Global,
     source: &Source,

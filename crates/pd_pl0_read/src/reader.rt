@@ -16,7 +16,7 @@ use std::marker::Model;
 const MOST_DEPTH: usize = 200;
 
 /// What has been read of a source: what is open, the blocks that are open, the name of the constant that is being
-/// declared, and the nodes so far, each behind its parts.
+/// declared, and the nodes so far, each after its parts.
 #[derive(Drop)]
 pub struct Reader {
     mode: Mode,
@@ -223,7 +223,7 @@ impl Reader {
         find_in(self.blocks.as_slice(), name)
     }
 
-    /// The first token behind the declarations so far of the innermost block.
+    /// The first token after the declarations so far of the innermost block.
     fn behind(&self) -> u32
         ensures { result ≡ behind_of self.now.blocks }
     {
@@ -332,7 +332,7 @@ impl Reader {
         Ok(())
     }
 
-    /// `.` behind the main block's statement.
+    /// `.` after the main block's statement.
     fn end_main(&mut self, at: u32) -> Result<bool, AllocError>
         requires few { at + 2 < 2 ^ 32 }
         requires none { self.old.stack ≡ [] }
@@ -348,7 +348,7 @@ impl Reader {
         Ok(true)
     }
 
-    /// `;` behind the statement of a procedure's block, whose frame is gone.
+    /// `;` after the statement of a procedure's block, whose frame is gone.
     fn end_procedure(&mut self, at: u32) -> Result<bool, AllocError>
         requires few { at + 2 < 2 ^ 32 }
         ensures { IfOk result (λ b. MatchBool b (procedure_ended at self.old.stack self.old.blocks self.old.constant self.old.nodes ≡ Some self.new) (procedure_ended at self.old.stack self.old.blocks self.old.constant self.old.nodes ≡ None)) }
@@ -365,7 +365,7 @@ impl Reader {
         Ok(true)
     }
 
-    /// A token behind a statement that stands in no `if` or `while`.
+    /// A token after a statement that stands in no `if` or `while`.
     fn end_whole(&mut self, at: u32, word: Word) -> Result<bool, AllocError>
         requires few { at + 2 < 2 ^ 32 }
         ensures { IfOk result (λ b. MatchBool b (ended_in at word self.old.stack self.old.blocks self.old.constant self.old.nodes ≡ Some self.new) (ended_in at word self.old.stack self.old.blocks self.old.constant self.old.nodes ≡ None)) }
@@ -387,7 +387,7 @@ impl Reader {
         Ok(true)
     }
 
-    /// A token behind a statement.
+    /// A token after a statement.
     fn end_statement(&mut self, at: u32, word: Word) -> Result<bool, AllocError>
         requires few { at + 2 < 2 ^ 32 }
         ensures { IfOk result (λ b. MatchBool b (statement_ended at word self.old.stack self.old.blocks self.old.constant self.old.nodes ≡ Some self.new) (statement_ended at word self.old.stack self.old.blocks self.old.constant self.old.nodes ≡ None)) }
@@ -396,7 +396,7 @@ impl Reader {
         self.end_whole(at, word)
     }
 
-    /// A token behind a condition.
+    /// A token after a condition.
     fn end_condition(&mut self, word: Word) -> bool
         ensures { MatchBool result (condition_ended word self.old.stack self.old.blocks self.old.constant self.old.nodes ≡ Some self.new) (condition_ended word self.old.stack self.old.blocks self.old.constant self.old.nodes ≡ None) }
     {
@@ -410,7 +410,7 @@ impl Reader {
         }
     }
 
-    /// A token behind an expression that stands in no parentheses.
+    /// A token after an expression that stands in no parentheses.
     fn end_purpose(&mut self, purpose: Purpose, at: u32, word: Word) -> Result<bool, AllocError>
         requires few { at + 2 < 2 ^ 32 }
         ensures { IfOk result (λ b. MatchBool b (purpose_ended purpose at word self.old.stack self.old.blocks self.old.constant self.old.nodes ≡ Some self.new) (purpose_ended purpose at word self.old.stack self.old.blocks self.old.constant self.old.nodes ≡ None)) }
@@ -442,7 +442,7 @@ impl Reader {
         }
     }
 
-    /// A token behind an expression.
+    /// A token after an expression.
     fn end(&mut self, purpose: Purpose, at: u32, word: Word) -> Result<bool, AllocError>
         requires few { at + 2 < 2 ^ 32 }
         ensures { IfOk result (λ b. MatchBool b (ended purpose at word self.old.stack self.old.blocks self.old.constant self.old.nodes ≡ Some self.new) (ended purpose at word self.old.stack self.old.blocks self.old.constant self.old.nodes ≡ None)) }
@@ -458,7 +458,7 @@ impl Reader {
         Ok(true)
     }
 
-    /// A token behind an operand.
+    /// A token after an operand.
     fn operate(
         &mut self,
         purpose: Purpose,
@@ -560,7 +560,7 @@ impl Reader {
         self.expression(found, Purpose::Left(at), at, word)
     }
 
-    /// The first token of a statement, or the token behind an empty one.
+    /// The first token of a statement, or the token after an empty one.
     fn statement(&mut self, found: Option<Found>, at: u32, word: Word) -> Result<bool, AllocError>
         requires few { at + 2 < 2 ^ 32 }
         ensures { IfOk result (λ b. MatchBool b (statement found at word self.old.stack self.old.blocks self.old.constant self.old.nodes ≡ Some self.new) (statement found at word self.old.stack self.old.blocks self.old.constant self.old.nodes ≡ None)) }
@@ -602,7 +602,7 @@ impl Reader {
         self.statement(found, at, word)
     }
 
-    /// A token behind a block's constants.
+    /// A token after a block's constants.
     fn variables(&mut self, found: Option<Found>, at: u32, word: Word) -> Result<bool, AllocError>
         requires few { at + 2 < 2 ^ 32 }
         ensures { IfOk result (λ b. MatchBool b (variables found at word self.old.stack self.old.blocks self.old.constant self.old.nodes ≡ Some self.new) (variables found at word self.old.stack self.old.blocks self.old.constant self.old.nodes ≡ None)) }
@@ -710,7 +710,8 @@ impl Reader {
     }
 
     /// Takes the next token, if it may come here. `at` is its number, counted from 0, `name` are its bytes and `found` its
-    /// visible declaration, where it is a name. After a token that may not come the reader has no meaning.
+    /// visible declaration, where it is a name. After a token that may not come, the contract says nothing of the
+    /// reader.
     fn take(
         &mut self,
         alloc: Global,

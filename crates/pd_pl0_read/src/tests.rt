@@ -4,7 +4,7 @@ use pd_pl0_lex::lex;
 use pd_sections::{MOST_BYTES, Source};
 use std::test::Fail;
 
-/// Each node by its first token, the one behind its last, and the number of its parts.
+/// Each node by its first token, the one after its last, and the number of its parts.
 #[test]
 fn answers(rt: HostRuntime) -> Result<(), Fail> {
     let text = "procedure p; ; begin call p; ! -1 end.";

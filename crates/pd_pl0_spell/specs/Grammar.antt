@@ -1,4 +1,4 @@
--- The grammar, a case for each alternative.
+-- Definition: the grammar, a case for each alternative.
 -- Each relation is between the words from some place on, the tree that they spell, and the words after it.
 -- Its first arguments are the rules on names that are kept, and the declarations in scope.
 use Rattle.std.specs.Prelude.{ℕ, List, [], ◌∷◌}
@@ -53,7 +53,7 @@ mutual
     no_more_statements : {r : List Word} → MoreStatements n s (EndKey ∷ r) none r
     next_statement : {ts r r' : List Word} {a : Tree} {more : Trees} → Statement n s ts a r → MoreStatements n s r more r' → MoreStatements n s (Semicolon ∷ ts) (also a more) r'
 
--- The relations of declarations have the scope before them and the scope behind them.
+-- The relations of declarations have the scope before them and the scope after them.
 -- { "," NAME "=" NUMBER } ";"
 pub data MoreConstants (n : Rules) : Scope → List Word → List Constant → Scope → List Word → Type 0 where
   no_more_constants : {s : Scope} {r : List Word} → MoreConstants n s (Semicolon ∷ r) [] s r

@@ -1,3 +1,5 @@
+-- Definitions, which public contracts cite: Words, Names, Grammar and Refusals.
+-- For the proofs alone: Machine and Reading.
 pub mod Words
 pub mod Names
 pub mod Grammar

@@ -1,3 +1,4 @@
+-- A second form of the grammar, for proofs: `reading_law` ties it to Grammar and Refusals, which decide.
 -- A machine that reads a word at a time. It holds what is open.
 use Rattle.std.specs.Prelude.{ℕ, List, [], ◌∷◌, ◌++◌, Option, Some, None}
 use Rattle.pd_pl0_spell.specs.Words.{Equal, Comparing, Adding, Multiplying, Word, Name, Number, Compares, Adds, Multiplies, Becomes, Writes, Open, Close, Comma, Semicolon, Period, ConstKey, VarKey, ProcedureKey, CallKey, BeginKey, EndKey, IfKey, ThenKey, WhileKey, DoKey, OddKey, Constant, Tree, name, number, parens, signed, sum, product, odd, compared, empty, assign, call, write, sequence, conditional, while, block, procedure, Trees, none, with_last}
@@ -14,14 +15,17 @@ pub record Waiting : Type 0 where
   pub sum : Before
   pub product : Option (Multiplying × Tree)
 
+-- nothing waits
 abbrev pub nothing : Waiting
 nothing = record { sum = Nothing; product = None }
 
+-- what waits at the level of sums, with its last operand
 abbrev pub sum_of : Before → Tree → Tree
 sum_of Nothing b = b
 sum_of (Sign o) b = signed o b
 sum_of (Left o a) b = sum o a b
 
+-- what waits at the level of products, with its last operand
 abbrev pub product_of : Option (Multiplying × Tree) → Tree → Tree
 product_of None b = b
 product_of (Some a) b = product a.0 a.1 b
@@ -30,22 +34,26 @@ product_of (Some a) b = product a.0 a.1 b
 abbrev pub term_of : Waiting → Tree → Tree
 term_of p f = product_of p.product f
 
+-- the whole expression, with its last operand
 abbrev pub whole : Waiting → Tree → Tree
 whole p f = sum_of p.sum (term_of p f)
 
--- a block behind its constants and variables: what it has so far, and its scope
+-- a block after its constants and variables: what it has so far, and its scope
 pub record Parts : Type 0 where
   pub constants : List Constant
   pub variables : List (List ℕ)
   pub procedures : Trees
   pub scope : Scope
 
+-- the block of these parts and this statement
 abbrev pub block_of : Parts → Tree → Tree
 block_of p a = block p.constants p.variables p.procedures a
 
+-- the parts of a block with one more procedure
 abbrev pub with_procedure : Parts → List ℕ → Tree → Parts
 with_procedure p x b = record { constants = p.constants; variables = p.variables; procedures = with_last p.procedures (procedure x b); scope = p.scope }
 
+-- the parts of a block that declares one more procedure, whose block comes next
 abbrev pub with_name : Parts → List ℕ → Parts
 with_name p x = record { constants = p.constants; variables = p.variables; procedures = p.procedures; scope = declare x AProcedure p.scope }
 
@@ -54,10 +62,12 @@ pub data Around : Type 0 where
   Main : Around
   Within : List ℕ → Parts → Around → Around
 
+-- what a condition belongs to
 pub data Keyword : Type 0 where
   ForIf : Keyword
   ForWhile : Keyword
 
+-- the `if` or `while` of a condition and a statement
 abbrev pub headed : Keyword → Tree → Tree → Tree
 headed ForIf c a = conditional c a
 headed ForWhile c a = while c a
@@ -68,6 +78,7 @@ pub data Holder : Type 0 where
   InSequence : Trees → Holder → Holder
   InBody : Keyword → Tree → Holder → Holder
 
+-- the declarations that are visible where the statement stands
 abbrev pub holder_scope : Holder → Scope
 holder_scope (InBlock p o) = p.scope
 holder_scope (InSequence ss h) = holder_scope h
@@ -82,6 +93,7 @@ pub data Stack : Type 0 where
   AsRight : Keyword → Comparing → Tree → Holder → Stack
   InParens : Waiting → Stack → Stack
 
+-- the declarations that are visible where the expression stands
 abbrev pub stack_scope : Stack → Scope
 stack_scope (AsAssigned x h) = holder_scope h
 stack_scope (AsWritten h) = holder_scope h
@@ -90,39 +102,41 @@ stack_scope (AsLeft w h) = holder_scope h
 stack_scope (AsRight w o a h) = holder_scope h
 stack_scope (InParens p k) = stack_scope k
 
+-- what has been read so far, and what may come next
 pub data State : Type 0 where
   -- at the beginning of a block
   BlockStart : Scope → Around → State
-  -- behind `const` or a `,`; behind the name; behind `=`; behind the number
+  -- after `const` or a `,`; after the name; after `=`; after the number
   BeforeConstant : List Constant → Scope → Around → State
   BeforeEqual : List Constant → List ℕ → Scope → Around → State
   BeforeNumber : List Constant → List ℕ → Scope → Around → State
   AfterConstant : List Constant → Scope → Around → State
-  -- behind the constants
+  -- after the constants
   AfterConstants : List Constant → Scope → Around → State
-  -- behind `var` or a `,`; behind the name
+  -- after `var` or a `,`; after the name
   BeforeVariable : List Constant → List (List ℕ) → Scope → Around → State
   AfterVariable : List Constant → List (List ℕ) → Scope → Around → State
-  -- behind the variables, and behind a procedure
+  -- after the variables, and after a procedure
   AfterVariables : Parts → Around → State
-  -- behind `procedure`, and behind its name
+  -- after `procedure`, and after its name
   BeforeProcedure : Parts → Around → State
   AfterProcedure : List ℕ → Parts → Around → State
   -- a statement comes next
   BeforeStatement : Holder → State
-  -- behind the name of an assignment, behind `call`
+  -- after the name of an assignment, after `call`
   BeforeBecomes : List ℕ → Holder → State
   BeforeCallee : Holder → State
-  -- behind a statement that ends with `end` or a name
+  -- after a statement that ends with `end` or a name
   AfterStatement : Tree → Holder → State
   BeforeCondition : Keyword → Holder → State
   -- an expression comes next, an operand comes next, an operand has been read
   BeforeExpression : Stack → State
   Wants : Waiting → Stack → State
   Has : Waiting → Tree → Stack → State
-  -- behind the `.`
+  -- after the `.`
   Finished : Tree → State
 
+-- before the first word
 abbrev pub start : State
 start = BlockStart no_declarations Main
 
@@ -157,22 +171,25 @@ ends (AsRight k o a h) e w = condition_ends k h (compared o a e) w
 ends (InParens p k) e Close = Some (Has p (parens e) k)
 ends (InParens p k) e w = None
 
+-- a word after an operand
 abbrev pub after_operand : Waiting → Tree → Stack → Word → Option State
 after_operand p f k (Adds o) = Some (Wants (record { sum = Left o (whole p f); product = None }) k)
 after_operand p f k (Multiplies o) = Some (Wants (record { sum = p.sum; product = Some (o, term_of p f) }) k)
 after_operand p f k w = ends k (whole p f) w
 
+-- the first word of an operand
 abbrev pub operand : Waiting → Stack → Word → Option State
 operand p k (Name x) = Some (Has p (name x) k)
 operand p k (Number v) = Some (Has p (number v) k)
 operand p k Open = Some (BeforeExpression (InParens p k))
 operand p k w = None
 
+-- the first word of an expression
 abbrev pub expression : Stack → Word → Option State
 expression k (Adds o) = Some (Wants (record { sum = Sign o; product = None }) k)
 expression k w = operand nothing k w
 
--- the first word of a statement, or the word behind an empty one
+-- the first word of a statement, or the word after an empty one
 abbrev pub statement : Holder → Word → Option State
 statement h (Name x) = Some (BeforeBecomes x h)
 statement h CallKey = Some (BeforeCallee h)
@@ -182,17 +199,21 @@ statement h IfKey = Some (BeforeCondition ForIf h)
 statement h WhileKey = Some (BeforeCondition ForWhile h)
 statement h w = statement_ends h empty w
 
+-- the parts of a block after its constants and variables
 abbrev pub parts_behind : List Constant → List (List ℕ) → Scope → Parts
 parts_behind cs vs s = record { constants = cs; variables = vs; procedures = none; scope = s }
 
+-- a word where a procedure or the block's statement may come
 abbrev pub procedures : Parts → Around → Word → Option State
 procedures p o ProcedureKey = Some (BeforeProcedure p o)
 procedures p o w = statement (InBlock p o) w
 
+-- a word where `var`, a procedure or the block's statement may come
 abbrev pub variables : List Constant → Scope → Around → Word → Option State
 variables cs s o VarKey = Some (BeforeVariable cs [] s o)
 variables cs s o w = procedures (parts_behind cs [] s) o w
 
+-- the first word of a block
 abbrev pub constants : Scope → Around → Word → Option State
 constants s o ConstKey = Some (BeforeConstant [] s o)
 constants s o w = variables [] s o w
@@ -238,6 +259,7 @@ role_next (BeforeExpression k) = Some (Reading, stack_scope k)
 role_next (Wants p k) = Some (Reading, stack_scope k)
 role_next _ = None
 
+-- the rule on names that the word breaks in this role and scope
 abbrev pub broken_in : Option (Role × Scope) → Word → Option Rule
 broken_in (Some u) (Name x) = broken_by u.0 u.1 x
 broken_in _ w = None
@@ -251,6 +273,7 @@ abbrev pub final : State → Option Tree
 final (Finished b) = Some b
 final _ = None
 
+-- the second step, where the first one is there
 abbrev pub followed : {A B : Type 0} → Option A → (A → Option B) → Option B
 followed None f = None
 followed (Some a) f = f a

@@ -1,43 +1,48 @@
--- What refuses a source behind its words: the first breach, and at one word the first rule in this order.
+-- Definition: what refuses a source, by its words: the first breach of a rule, and at one word the first rule in this
+-- order.
 use Rattle.std.specs.Prelude.{◌≡◌, ℕ, ◌+◌, ◌<◌, ◌≤◌, Bool, true, false, List, [], ◌∷◌, ◌++◌, length, Result, Ok, Err}
 use Rattle.pd_pl0_spell.specs.Words.{Word, Number, Open, Close, Semicolon, Period, ConstKey, VarKey, ProcedureKey, BeginKey, EndKey, IfKey, WhileKey, Tree, parens, signed, sum, product, odd, compared, assign, write, sequence, conditional, while, block, procedure, Trees, none, also}
 use Rattle.pd_pl0_spell.specs.Names.{Rule, Unexpected, LiteralTooLarge, Doubled, Undeclared, NotAssignable, NotAProcedure, NotAValue, TooDeep, TooManyNodes, Rules, no_rule, every_rule, only}
 use Rattle.pd_pl0_spell.specs.Grammar.{Program}
 
--- What is open behind some words: a `(` or `begin`, an `if` or `while`, the block of a procedure.
+-- What is open after some words: a `(` or `begin`, an `if` or `while`, the block of a procedure.
 pub data Opener : Type 0 where
   Bracket : Opener
   Heading : Opener
   Procedure : Opener
 
+-- what is open after some words
 pub record Opened : Type 0 where
   -- from the inside
   pub openers : List Opener
   -- a `const`, `var` or `procedure` stands before the next `;`, so that this ends no statement
   pub declaring : Bool
 
--- An `if` and a `while` end with the statement inside, at the word behind it.
+-- An `if` and a `while` end with the statement inside, at the word after it.
 abbrev pub without_headings : List Opener → List Opener
 without_headings [] = []
 without_headings (Heading ∷ os) = without_headings os
 without_headings (Bracket ∷ os) = Bracket ∷ os
 without_headings (Procedure ∷ os) = Procedure ∷ os
 
+-- without the innermost of what is open
 abbrev pub without_bracket : List Opener → List Opener
 without_bracket [] = []
 without_bracket (x ∷ os) = os
 
--- a `;` behind a statement that stands in no `begin` ends the procedure's block
+-- a `;` after a statement that stands in no `begin` ends the procedure's block
 abbrev pub without_procedure : List Opener → List Opener
 without_procedure [] = []
 without_procedure (Bracket ∷ os) = Bracket ∷ os
 without_procedure (Heading ∷ os) = Heading ∷ os
 without_procedure (Procedure ∷ os) = os
 
+-- what is open after a `;`; in a declaration it ends no statement
 abbrev pub behind_semicolon : Bool → List Opener → List Opener
 behind_semicolon true os = os
 behind_semicolon false os = without_procedure (without_headings os)
 
+-- what is open after one more word
 abbrev pub opened : Opened → Word → Opened
 opened o Open = record { openers = Bracket ∷ o.openers; declaring = o.declaring }
 opened o Close = record { openers = without_bracket o.openers; declaring = o.declaring }
@@ -52,13 +57,16 @@ opened o Semicolon = record { openers = behind_semicolon o.declaring o.openers; 
 opened o Period = record { openers = without_headings o.openers; declaring = o.declaring }
 opened o w = o
 
+-- what is open after these words
 abbrev pub opened_behind : Opened → List Word → Opened
 opened_behind o [] = o
 opened_behind o (w ∷ ws) = opened_behind (opened o w) ws
 
+-- before the first word
 abbrev pub nothing_open : Opened
 nothing_open = record { openers = []; declaring = false }
 
+-- how much is open after these words
 abbrev pub nesting : List Word → ℕ
 nesting ws = length (opened_behind nothing_open ws).openers
 
@@ -66,14 +74,17 @@ nesting ws = length (opened_behind nothing_open ws).openers
 abbrev pub Begins : Rules → List Word → Type 0
 Begins rules ws = (more : List Word) × (T : Tree) × Program rules (ws ++ more) T
 
+-- 2^63 - 1, the largest number that a source may have
 abbrev pub largest : ℕ
 largest = 9223372036854775807
 
+-- the word is a number above that
 abbrev pub IsTooLarge : Word → Type 0
 IsTooLarge (Number v) = largest < v
 IsTooLarge _ = ⊥
 
--- The word breaks the rule, behind the words before it. A rule on names is broken where the words up to this one begin no program in which this rule is kept.
+-- The word breaks the rule, where these words stand before it. A rule on names is broken where the words up to this one
+-- begin no program in which this rule is kept.
 abbrev pub Breaches : List Word → Word → Rule → Type 0
 Breaches before w Unexpected = Begins no_rule (before ++ w ∷ []) → ⊥
 Breaches before w LiteralTooLarge = IsTooLarge w
@@ -105,6 +116,7 @@ rank NotAValue = 6
 rank TooDeep = 7
 rank TooManyNodes = 8
 
+-- of two rules that one word breaks, the first is told
 abbrev pub Precedes : Rule → Rule → Type 0
 Precedes r s = rank r < rank s
 
@@ -142,7 +154,7 @@ abbrev mutual
   all_nodes (also t ts) = nodes t + all_nodes ts
 
 -- Why a source is refused: a word breaks a rule, or the words end too early, or make too many nodes.
--- The place behind the last word is the number of words.
+-- The place after the last word is the number of words.
 pub data Refuses (room : ℕ) (ws : List Word) (rule : Rule) (at : ℕ) : Type 0 where
   at_word : FirstBreach ws rule at → Refuses room ws rule at
   at_end : IsClean ws → ((T : Tree) → Program no_rule ws T → ⊥) → rule ≡ Unexpected → at ≡ length ws → Refuses room ws rule at
@@ -155,6 +167,7 @@ pub record Accepts (room : ℕ) (ws : List Word) (T : Tree) : Type 0 where
   pub clean : IsClean ws
   pub fits : nodes T ≤ room
 
+-- the answer is the tree that the words spell within the rules, or the first breach
 abbrev pub Answers : ℕ → List Word → Result Tree (Rule × ℕ) → Type 0
 Answers room ws (Ok T) = Accepts room ws T
 Answers room ws (Err e) = Refuses room ws e.0 e.1

@@ -1,3 +1,4 @@
+-- Definition: `IsPl0`; the rest is for proofs.
 -- Nodes of PL/0, and a block's value.
 use Rattle.std.specs.Prelude.{slice_get}
 use Rattle.pd_values.specs.declared.value.Value.{Value}

@@ -1,10 +1,11 @@
--- What reading gives: a value, or the first broken rule with its path.
+-- Definition: what reading gives: a value, or the first broken rule with its path.
 use Rattle.std.specs.Prelude.{◌≡◌, ℕ, List, [], ◌++◌, Bool, Result, Ok, Err, ⊤, codes, decimal, if◌then◌else◌}
 use Rattle.pd_plan.specs.declared.refusal.PlanRule.{PlanRule}
 use Rattle.pd_plan.specs.declared.refusal.PlanRefusal.{PlanRefusal}
 use Rattle.pd_values.specs.declared.stop.Stop.{Stop}
 use Rattle.pd_values.specs.declared.stop.Stop.TheVariants.{Refused, Memory}
 
+-- what is read, or the first broken rule with its path
 abbrev pub Read : Type 0 → Type 0
 Read A = Result A PlanRefusal
 
@@ -23,6 +24,7 @@ abbrev pub ◌>>◌ : {A B : Type 0} → Read A → Read B → Read B
 abbrev pub refuse : {A : Type 0} → PlanRule → Read A
 refuse rule = Err (record { rule = rule; path = [] })
 
+-- refuses by the rule where the test holds
 abbrev pub refuse_if : Bool → PlanRule → Read ⊤
 refuse_if b rule = if b then refuse rule else Ok tt
 
@@ -30,9 +32,11 @@ refuse_if b rule = if b then refuse rule else Ok tt
 abbrev pub member_step : List ℕ → List ℕ
 member_step name = codes "/" ++ name
 
+-- the step of a path to the entry with this index
 abbrev pub entry_step : ℕ → List ℕ
 entry_step i = codes "/" ++ decimal i
 
+-- a refusal inside a member or an entry, with the step to it before its path
 abbrev pub under : {A : Type 0} → List ℕ → Read A → Read A
 under step (Ok x) = Ok x
 under step (Err e) = Err (record { rule = e.rule; path = step ++ e.path })
@@ -48,6 +52,7 @@ abbrev pub Stops : Stop PlanRefusal → PlanRule → List ℕ → Type 0
 Stops (Refused e) rule path = (e.rule ≡ rule) × (e.path ≡ path)
 Stops Memory rule path = ⊤
 
+-- the second stop is the first one, with the step before its path
 abbrev pub IsUnder : List ℕ → Stop PlanRefusal → Stop PlanRefusal → Type 0
 IsUnder step (Refused e) stop = Stops stop e.rule (step ++ e.path)
 IsUnder step Memory stop = stop ≡ Memory

@@ -1,5 +1,5 @@
--- What is served by now of the plans that are sound: one context, bindings that only observe, and sessions that only
--- attach bindings before it starts.
+-- Definition: which of the plans that are sound this version serves: those with one context, bindings that only
+-- observe, and sessions that only attach bindings before it starts.
 use Rattle.std.specs.Prelude.{◌≡◌, [], length, ⊤}
 use Rattle.std.specs.List.{AllByRecursion}
 use Rattle.pd_plan.specs.declared.plan.BindingSpec.{BindingSpec}
@@ -8,15 +8,18 @@ use Rattle.pd_plan.specs.declared.plan.Script.{Script}
 use Rattle.pd_plan.specs.declared.plan.Plan.{Plan}
 use Rattle.pd_plan.specs.Sound.{IsSound}
 
+-- the binding is an observer
 abbrev pub Observes : BindingSpec → Type 0
 Observes (Observe f) = ⊤
 Observes (Break b) = ⊥
 Observes (Pause s) = ⊥
 
+-- the session does nothing while the contexts run
 pub record OnlyAttaches (s : Script) : Type 0 where
   pub actions : s.actions ≡ []
   pub answers : s.answers ≡ []
 
+-- this version serves the plan
 pub record IsServed (p : Plan) : Type 0 where
   pub sound : IsSound p
   pub context : length p.contexts ≡ 1

@@ -1,4 +1,4 @@
--- The words of the tables: numbers, texts, words, lists, members.
+-- Definition: the words of the tables: numbers, texts, words, lists, members.
 use Rattle.std.specs.Prelude.{ℕ, suc, ℤ, pos, negsuc, ◌^◌, List, [], ◌∷◌, ◌&&◌, ◌||◌, ◌==◌, length, min, count_by, Bool, true, not, nat_lt, Option, Some, None, option_map, Ok, Err, ⊤, if◌then◌else◌, bytes_eq, is_some, unwrap_or}
 use Rattle.std.specs.List.{list_any}
 use Rattle.serde_json.specs.Data.{unsigned, negative, Data, boolean, number, string, array, object, Items, no_items, item, Members, no_members, member}
@@ -10,27 +10,32 @@ use Rattle.pd_plan_json.specs.Reading.{Read, ◌>>=◌, ◌>>◌, refuse, refuse
 abbrev pub outside : ℕ → ℕ → ℕ → Bool
 outside low high n = nat_lt n low || nat_lt high n
 
--- the kinds of JSON: a whole number, a truth value, a text, a list, an object
+-- a whole number that is written without sign, point and exponent
 abbrev pub whole : Data → Read ℕ
 whole (number (unsigned n)) = Ok n
 whole _ = refuse WrongShape
 
+-- a truth value
 abbrev pub truth : Data → Read Bool
 truth (boolean b) = Ok b
 truth _ = refuse WrongShape
 
+-- the bytes of a text
 abbrev pub chars : Data → Read (List ℕ)
 chars (string s) = Ok s
 chars _ = refuse WrongShape
 
+-- the entries of a list
 abbrev pub items : Data → Read Items
 items (array ds) = Ok ds
 items _ = refuse WrongShape
 
+-- the members of an object
 abbrev pub members : Data → Read Members
 members (object ms) = Ok ms
 members _ = refuse WrongShape
 
+-- that the value is an object
 abbrev pub an_object : Data → Read ⊤
 an_object (object ms) = Ok tt
 an_object _ = refuse WrongShape
@@ -47,6 +52,7 @@ abbrev pub signed_in : ℤ → Read ℤ
 signed_in (pos n) = if nat_lt n (2 ^ 63) then Ok (pos n) else refuse OutOfRange
 signed_in (negsuc n) = if nat_lt n (2 ^ 63) then Ok (negsuc n) else refuse OutOfRange
 
+-- a whole number of 64 bits, with or without a sign
 abbrev pub signed : Data → Read ℤ
 signed (number (unsigned n)) = signed_in (pos n)
 signed (number (negative z)) = signed_in z
@@ -79,11 +85,12 @@ entries reader i (item d ds) = do
   xs ← entries reader (suc i) ds
   Ok (x ∷ xs)
 
+-- the number of entries
 abbrev pub count : Items → ℕ
 count no_items = 0
 count (item d ds) = suc (count ds)
 
--- a list of low to high entries, of which at most `built` are served yet
+-- a list of low to high entries, of which this version serves at most `built`
 unfoldable pub list_in : {A : Type 0} → ℕ → ℕ → ℕ → (Data → Read A) → Data → Read (List A)
 list_in low high built reader d = do
   ds ← items d
@@ -96,6 +103,7 @@ abbrev pub or_missing : {A : Type 0} → (Data → Read A) → Option Data → R
 or_missing reader None = refuse Missing
 or_missing reader (Some v) = reader v
 
+-- the value of a member that has to be there
 unfoldable pub required : {A : Type 0} → List ℕ → (Data → Read A) → Data → Read A
 required name reader d = under (member_step name) (or_missing reader (get name d))
 
@@ -106,6 +114,7 @@ if_there reader (Some v) = do
   x ← reader v
   Ok (Some x)
 
+-- the value of a member that may be absent
 unfoldable pub optional : {A : Type 0} → List ℕ → (Data → Read A) → Data → Read (Option A)
 optional name reader d = under (member_step name) (if_there reader (get name d))
 
@@ -114,6 +123,7 @@ abbrev pub are_among : List (List ℕ) → Members → Bool
 are_among names no_members = true
 are_among names (member k d ms) = list_any (bytes_eq k) names && are_among names ms
 
+-- that the object has no members but these
 unfoldable pub no_other : List (List ℕ) → Data → Read ⊤
 no_other names d = do
   ms ← members d
@@ -131,7 +141,7 @@ table_of names inner d = do
 abbrev pub present : List (List ℕ) → Data → ℕ
 present names d = count_by (λ name. is_some (get name d)) names
 
--- an object with just one of these members, and none of those that aren't served yet
+-- an object with just one of these members, and none of those that this version doesn't serve
 unfoldable pub one_of : {A : Type 0} → List (List ℕ) → List (List ℕ) → (Data → Read A) → Data → Read A
 one_of names unserved reader d = do
   an_object d

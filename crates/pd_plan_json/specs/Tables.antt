@@ -1,6 +1,6 @@
--- The tables of a plan: the members of each object, in order, and the names that the object may have. A list has at least
--- the first and at most the second number of entries, of which at most the third are served yet. What isn't served yet is
--- `NotBuilt` at its value, after the value's other rules and before the next value.
+-- Definition: the tables of a plan: the members of each object, in order, and the names that the object may have. A
+-- list has at least the first and at most the second number of entries, of which this version serves at most the third.
+-- What it doesn't serve is `NotBuilt` at its value, after the value's other rules and before the next value.
 use Rattle.std.specs.Prelude.{ℕ, ◌==◌, if◌then◌else◌, List, [], ◌∷◌, length, Ok, codes, nat_lt, false}
 use Rattle.serde_json.specs.Data.{Data, null, boolean, number, string, array, object, Items, no_items, item}
 use Rattle.pd_values.specs.declared.value.Value.{Value}
@@ -32,24 +32,30 @@ use Rattle.pd_plan_json.specs.declared.bindings.Kind.TheVariants as kinds
 use Rattle.pd_plan_json.specs.Reading.{Read, ◌>>=◌, ◌>>◌, refuse, refuse_if, under, entry_step}
 use Rattle.pd_plan_json.specs.Shapes.{outside, whole, signed, truth, chars, items, an_object, number_in, reference, text_in, meaning, list_in, required, optional, with_default, table_of, one_of, optional_as, or_else}
 
+-- a name: a text of 1 to 255 bytes
 abbrev pub name : Data → Read (List ℕ)
 name = text_in 1 255
 
+-- the language of a word
 abbrev pub language_of : List ℕ → Read Language
 language_of = meaning ((codes "sl", Ok Sl) ∷ (codes "pl0", Ok Pl0) ∷ [])
 
+-- a language
 unfoldable pub language : Data → Read Language
 language d = chars d >>= language_of
 
+-- the members of a source
 unfoldable pub source_members : Data → Read SourceSpec
 source_members d = do
   called ← required (codes "name") name d
   language ← required (codes "language") language d
   Ok (record { name = called; language = language })
 
+-- a source
 abbrev pub source : Data → Read SourceSpec
 source = table_of (codes "name" ∷ codes "language" ∷ []) source_members
 
+-- the members of an export
 unfoldable pub export_members : Data → Read ExportSpec
 export_members d = do
   called ← required (codes "name") name d
@@ -57,9 +63,11 @@ export_members d = do
   procedure ← required (codes "item") name d
   Ok (record { name = called; source = source; item = procedure })
 
+-- an export
 abbrev pub export : Data → Read ExportSpec
 export = table_of (codes "name" ∷ codes "source" ∷ codes "item" ∷ []) export_members
 
+-- the members of a context
 unfoldable pub context_members : Data → Read ContextSpec
 context_members d = do
   source ← required (codes "source") reference d
@@ -67,12 +75,15 @@ context_members d = do
   fuel ← with_default (codes "fuel") 1000000 (number_in 1 16777216) d
   Ok (record { source = source; entry = entry; fuel = fuel })
 
+-- a context
 abbrev pub context : Data → Read ContextSpec
 context = table_of (codes "source" ∷ codes "entry" ∷ codes "fuel" ∷ []) context_members
 
+-- the tag of a word
 abbrev pub tag_of : List ℕ → Read Tag
 tag_of = meaning ((codes "Statement", Ok Statement) ∷ (codes "Call", Ok Call) ∷ (codes "Root", Ok Root) ∷ (codes "RootBody", Ok RootBody) ∷ (codes "Expression", Ok Expression) ∷ (codes "ReadVariable", Ok ReadVariable) ∷ (codes "WriteVariable", Ok WriteVariable) ∷ (codes "AlwaysHalt", Ok AlwaysHalt) ∷ [])
 
+-- a tag
 unfoldable pub tag : Data → Read Tag
 tag d = chars d >>= tag_of
 
@@ -84,6 +95,7 @@ pair (item d (item e no_items)) = do
   Ok (a, b)
 pair _ = refuse WrongShape
 
+-- a range of lines: a pair in order, then each line in its range
 unfoldable pub lines : Data → Read LineRange
 lines d = do
   ds ← items d
@@ -93,6 +105,7 @@ lines d = do
   under (entry_step 1) (refuse_if (outside 1 1048577 p.1) OutOfRange)
   Ok (record { from = p.0; to = p.1 })
 
+-- the members of a filter
 unfoldable pub filter_members : Data → Read Filter
 filter_members d = do
   tags ← with_default (codes "tags") [] (list_in 1 64 64 tag) d
@@ -102,6 +115,7 @@ filter_members d = do
   roots ← with_default (codes "roots") [] (list_in 1 64 64 name) d
   Ok (record { tags = tags; not_tags = not_tags; sources = sources; lines = ranges; roots = roots })
 
+-- a filter
 abbrev pub filter : Data → Read Filter
 filter = table_of (codes "tags" ∷ codes "not_tags" ∷ codes "sources" ∷ codes "lines" ∷ codes "roots" ∷ []) filter_members
 
@@ -112,14 +126,17 @@ condition d = do
   refuse_if (outside 1 1000 (length s)) OutOfRange
   refuse NotBuilt
 
+-- the members of an observer
 unfoldable pub observer_members : Data → Read BindingSpec
 observer_members d = do
   f ← required (codes "filter") filter d
   Ok (bindings.Observe f)
 
+-- an observer
 abbrev pub observer : Data → Read BindingSpec
 observer = table_of (codes "kind" ∷ codes "filter" ∷ []) observer_members
 
+-- the members of a breakpoint
 unfoldable pub breakpoint_members : Data → Read BindingSpec
 breakpoint_members d = do
   session ← required (codes "session") reference d
@@ -130,28 +147,35 @@ breakpoint_members d = do
   one_shot ← with_default (codes "one_shot") false truth d
   Ok (bindings.Break (record { session = session; source = source; line = line; condition = test; ignore = ignore; one_shot = one_shot }))
 
+-- a breakpoint
 abbrev pub breakpoint : Data → Read BindingSpec
 breakpoint = table_of (codes "kind" ∷ codes "session" ∷ codes "source" ∷ codes "line" ∷ codes "condition" ∷ codes "ignore" ∷ codes "one_shot" ∷ []) breakpoint_members
 
+-- the members of a pause
 unfoldable pub pause_members : Data → Read BindingSpec
 pause_members d = do
   session ← required (codes "session") reference d
   Ok (bindings.Pause session)
 
+-- a pause
 abbrev pub pause : Data → Read BindingSpec
 pause = table_of (codes "kind" ∷ codes "session" ∷ []) pause_members
 
+-- the kind of a word; this version serves observers alone
 abbrev pub kind_of : List ℕ → Read Kind
 kind_of = meaning ((codes "observe", Ok kinds.Observe) ∷ (codes "break", refuse NotBuilt) ∷ (codes "pause", refuse NotBuilt) ∷ [])
 
+-- the kind of a binding
 unfoldable pub kind : Data → Read Kind
 kind d = chars d >>= kind_of
 
+-- a binding of this kind
 abbrev pub binding_of : Kind → Data → Read BindingSpec
 binding_of kinds.Observe = observer
 binding_of kinds.Break = breakpoint
 binding_of kinds.Pause = pause
 
+-- a binding, its kind first
 unfoldable pub binding : Data → Read BindingSpec
 binding d = do
   an_object d
@@ -171,15 +195,18 @@ first_act d =
 unfoldable pub act : ℕ → Data → Read Act
 act version = if version == 1 then one_of (codes "attach" ∷ codes "dispose" ∷ []) [] first_act else one_of (codes "attach" ∷ codes "dispose" ∷ codes "enable" ∷ codes "disable" ∷ []) (codes "enable" ∷ codes "disable" ∷ []) first_act
 
+-- the members of a wait for answers
 unfoldable pub wait_members : Data → Read Action
 wait_members d = do
   n ← required (codes "count") (number_in 1 1000000) d
   turns ← required (codes "turns") (number_in 1 1000000) d
   Ok (actions.Await n turns)
 
+-- a wait for answers
 abbrev pub wait : Data → Read Action
 wait = table_of (codes "count" ∷ codes "turns" ∷ []) wait_members
 
+-- what a session does: a wait, or else an act
 unfoldable pub first_action : Data → Read Action
 first_action d = or_else (optional (codes "await") wait d) (first_act d >>= λ a. Ok (actions.Act a))
 
@@ -187,6 +214,7 @@ first_action d = or_else (optional (codes "await") wait d) (first_act d >>= λ a
 unfoldable pub action : ℕ → Data → Read Action
 action version = if version == 1 then one_of (codes "attach" ∷ codes "dispose" ∷ codes "await" ∷ []) [] first_action else one_of (codes "attach" ∷ codes "dispose" ∷ codes "await" ∷ codes "enable" ∷ codes "disable" ∷ []) (codes "enable" ∷ codes "disable" ∷ []) first_action
 
+-- the way to go on that is a word
 abbrev pub resume_of : List ℕ → Read Resume
 resume_of = meaning ((codes "continue", Ok Continue) ∷ (codes "kill", refuse NotBuilt) ∷ [])
 
@@ -211,14 +239,17 @@ frame_and_value (item d (item e no_items)) = do
   Ok (Return k v)
 frame_and_value _ = refuse WrongShape
 
+-- an early return: a pair of a frame and the value that its call gives
 unfoldable pub returning : Data → Read Resume
 returning d = do
   ds ← items d
   frame_and_value ds
 
+-- a number of steps
 abbrev pub steps : Data → Read ℕ
 steps = number_in 1 1000000
 
+-- the way to go on that is an object: the first of its members that is there
 unfoldable pub first_step : Data → Read Resume
 first_step d =
     or_else (optional_as Into (codes "into") steps d)
@@ -232,19 +263,23 @@ first_step d =
 unfoldable pub stepping : ℕ → Data → Read Resume
 stepping version = if version == 1 then one_of (codes "into" ∷ codes "over" ∷ codes "out" ∷ codes "reenter" ∷ []) (codes "reenter" ∷ []) first_step else one_of (codes "into" ∷ codes "over" ∷ codes "out" ∷ codes "reenter" ∷ codes "return" ∷ []) (codes "reenter" ∷ codes "return" ∷ []) first_step
 
+-- a way to go on: a word, or an object of a plan of this version
 unfoldable pub resume : ℕ → Data → Read Resume
 resume version (string s) = resume_of s
 resume version d = stepping version d
 
+-- the members of an answer
 unfoldable pub answer_members : ℕ → Data → Read Answer
 answer_members version d = do
   first ← with_default (codes "first") [] (list_in 0 64 64 (act version)) d
   next ← required (codes "then") (resume version) d
   Ok (record { first = first; resume = next })
 
+-- an answer
 abbrev pub answer : ℕ → Data → Read Answer
 answer version = table_of (codes "first" ∷ codes "then" ∷ []) (answer_members version)
 
+-- the members of a session; this version serves no actions and no answers
 unfoldable pub session_members : ℕ → Data → Read Script
 session_members version d = do
   before ← with_default (codes "before") [] (list_in 0 4096 4096 reference) d
@@ -252,9 +287,11 @@ session_members version d = do
   answers ← with_default (codes "answers") [] (list_in 0 10000 0 (answer version)) d
   Ok (record { before = before; actions = acts; answers = answers })
 
+-- a session
 abbrev pub session : ℕ → Data → Read Script
 session version = table_of (codes "before" ∷ codes "actions" ∷ codes "answers" ∷ []) (session_members version)
 
+-- the members of a plan; this version serves one context
 unfoldable pub plan_members : Data → Read Plan
 plan_members d = do
   version ← required (codes "version") (number_in 1 2) d
@@ -265,5 +302,6 @@ plan_members d = do
   sessions ← with_default (codes "sessions") [] (list_in 0 16 16 (session version)) d
   Ok (record { sources = sources; exports = exports; contexts = contexts; bindings = observed; sessions = sessions })
 
+-- a plan
 unfoldable pub plan : Data → Read Plan
 plan d = table_of (codes "version" ∷ codes "sources" ∷ codes "exports" ∷ codes "contexts" ∷ codes "bindings" ∷ codes "sessions" ∷ []) plan_members d

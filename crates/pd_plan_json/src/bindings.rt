@@ -40,6 +40,7 @@ impl Reader for TagWord {
     }
 }
 
+// The lists of a filter have 1 to 64 entries.
 const TAGS: ListIn<TagWord> = ListIn {
     low: 1,
     high: 64,
@@ -68,6 +69,7 @@ const ROOTS: ListIn<TextIn> = ListIn {
     entry: NAME,
 };
 
+// The range of lines: a source of 2^20 bytes, the most there may be, has at most 2^20 + 1 of them.
 const LINE: NumberIn = NumberIn {
     low: 1,
     high: 1_048_577,
@@ -84,7 +86,7 @@ fn line_in(alloc: Global, index: usize, n: u64) -> Result<u32, Stop<PlanRefusal>
     Ok(n as u32)
 }
 
-/// Just two whole numbers.
+/// Just two whole numbers; any other list is of the wrong shape.
 #[tactic(auto, using(crate::proofs::Lists::pair_of_others))]
 fn pair_of(alloc: Global, values: &[Value]) -> Result<(u64, u64), Stop<PlanRefusal>>
     ensures { Gives result (table.pair (items_view values.now)) }
@@ -99,7 +101,7 @@ fn pair_of(alloc: Global, values: &[Value]) -> Result<(u64, u64), Stop<PlanRefus
     }
 }
 
-/// Reads a range of lines.
+/// Reads a range of lines: the first may not be above the second.
 #[derive(Drop)]
 struct LinesTable;
 
@@ -121,7 +123,7 @@ impl Reader for LinesTable {
     }
 }
 
-/// Reads a filter.
+/// Reads the members of a filter.
 #[derive(Drop)]
 struct FilterMembers;
 
@@ -152,7 +154,7 @@ const FILTER: Table<FilterMembers> = Table {
     members: FilterMembers,
 };
 
-/// Reads a condition, of 1 to 1000 bytes. None is served yet.
+/// Reads a condition, a text of 1 to 1000 bytes. This version serves none: each is refused as `NotBuilt`.
 #[derive(Drop)]
 struct ConditionText;
 
@@ -179,7 +181,7 @@ enum Kind {
     Pause,
 }
 
-/// Reads the kind of a binding.
+/// Reads the kind of a binding. This version serves `observe` alone.
 #[derive(Drop)]
 struct KindWord;
 
@@ -199,7 +201,7 @@ impl Reader for KindWord {
     }
 }
 
-/// Reads an observer.
+/// Reads the members of an observer.
 #[derive(Drop)]
 struct ObserverMembers;
 
@@ -220,12 +222,13 @@ const OBSERVER: Table<ObserverMembers> = Table {
     members: ObserverMembers,
 };
 
+// How many hits of a breakpoint are only counted.
 const IGNORED: NumberIn = NumberIn {
     low: 0,
     high: 1_000_000,
 };
 
-/// Reads a breakpoint.
+/// Reads the members of a breakpoint.
 #[derive(Drop)]
 struct BreakMembers;
 
@@ -273,7 +276,7 @@ fn breakpoint_of(alloc: Global, value: &Value) -> Result<BindingSpec, Stop<PlanR
     BREAK.read(alloc, value)
 }
 
-/// Reads a pause.
+/// Reads the members of a pause.
 #[derive(Drop)]
 struct PauseMembers;
 

@@ -107,8 +107,8 @@ fn present_in(value: &Value, names: &[&str]) -> usize
     names.iter().filter(|n| value.get(**n).is_some()).count()
 }
 
-/// What an object is that has just one of these members, and none of those that aren't served
-/// yet.
+/// What an object is that has just one of these members; it is refused as `NotBuilt` where it has one of `unserved`,
+/// which this version doesn't serve.
 #[tactic(auto, unfolding(crate::specs::Shapes::one_of))]
 pub(crate) fn choice_of<R: Reader>(
     alloc: Global,

@@ -13,14 +13,16 @@ use pd_values::{Stop, Text};
 use serde_json::Value;
 use std::alloc::Global;
 
+/// Reads a name: a text of 1 to 255 bytes.
 pub(crate) const NAME: TextIn = TextIn { low: 1, high: 255 };
 
+// The range of a context's fuel: 1 to 2^24.
 const FUEL: NumberIn = NumberIn {
     low: 1,
     high: 16_777_216,
 };
 
-/// Reads a language.
+/// Reads a language: `sl` or `pl0`.
 #[derive(Drop)]
 pub(crate) struct LanguageWord;
 
@@ -39,7 +41,7 @@ impl Reader for LanguageWord {
     }
 }
 
-/// Reads a source.
+/// Reads the members of a source.
 #[derive(Drop)]
 pub(crate) struct SourceMembers;
 
@@ -56,12 +58,13 @@ impl Reader for SourceMembers {
     }
 }
 
+/// Reads a source: an object with these members and no other.
 pub(crate) const SOURCE: Table<SourceMembers> = Table {
     names: &["name", "language"],
     members: SourceMembers,
 };
 
-/// Reads an export.
+/// Reads the members of an export.
 #[derive(Drop)]
 pub(crate) struct ExportMembers;
 
@@ -79,12 +82,13 @@ impl Reader for ExportMembers {
     }
 }
 
+/// Reads an export: an object with these members and no other.
 pub(crate) const EXPORT: Table<ExportMembers> = Table {
     names: &["name", "source", "item"],
     members: ExportMembers,
 };
 
-/// The name of a context's entry.
+/// The name of a context's entry; `main` where the member is absent.
 #[tactic(auto, unfolding(crate::specs::Shapes::with_default))]
 fn entry_or_main(alloc: Global, value: &Value) -> Result<Text, Stop<PlanRefusal>>
     ensures { Gives result (with_default (codes "entry") (codes "main") table.name (view value.now)) }
@@ -95,7 +99,7 @@ fn entry_or_main(alloc: Global, value: &Value) -> Result<Text, Stop<PlanRefusal>
     }
 }
 
-/// Reads a context.
+/// Reads the members of a context.
 #[derive(Drop)]
 pub(crate) struct ContextMembers;
 
@@ -117,6 +121,7 @@ impl Reader for ContextMembers {
     }
 }
 
+/// Reads a context: an object with these members and no other.
 pub(crate) const CONTEXT: Table<ContextMembers> = Table {
     names: &["source", "entry", "fuel"],
     members: ContextMembers,

@@ -29,7 +29,7 @@ pub(crate) fn refusal(alloc: Global, rule: PlanRule) -> Stop<PlanRefusal>
     Stop::Refused(PlanRefusal { rule, path })
 }
 
-/// The same refusal, seen from the object around the member.
+/// The same refusal, seen from the object around the member: its path has the member's name first.
 pub(crate) fn in_member(alloc: Global, name: &str, stop: Stop<PlanRefusal>) -> Stop<PlanRefusal>
     ensures { IsUnder (member_step name.now) stop result }
 {
@@ -48,7 +48,7 @@ pub(crate) fn in_member(alloc: Global, name: &str, stop: Stop<PlanRefusal>) -> S
     }
 }
 
-/// The same refusal, seen from the list around the entry.
+/// The same refusal, seen from the list around the entry: its path has the entry's index first.
 pub(crate) fn in_entry(alloc: Global, index: usize, stop: Stop<PlanRefusal>) -> Stop<PlanRefusal>
     ensures { IsUnder (entry_step index) stop result }
 {

@@ -11,7 +11,7 @@ use pd_plan::{
 use pd_values::{Items, Stop};
 use std::alloc::Global;
 
-/// A rule on values of one kind.
+/// A rule on the numbers that a value of one kind has.
 trait Rule {
     type Of: Drop;
 
@@ -302,7 +302,7 @@ impl<'p> Rule for SessionRule<'p> {
     }
 }
 
-/// That each number of a source, a binding or a session is one that the plan has.
+/// Whether each number of a source, a binding or a session is one that the plan has; or else the first that isn't.
 #[tactic(auto, unfolding(crate::specs::References::refers))]
 pub(crate) fn check_references(alloc: Global, plan: &Plan) -> Result<(), Stop<PlanRefusal>>
     ensures { Gives result (refer.refers plan.now) }

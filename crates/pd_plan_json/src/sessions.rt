@@ -13,13 +13,16 @@ use pd_values::{Stop, Value as Given};
 use serde_json::Value;
 use std::alloc::Global;
 
+// The range of a number of answers, turns or steps.
 const MILLION: NumberIn = NumberIn {
     low: 1,
     high: 1_000_000,
 };
 
+// The range of the number of a frame, counted from the innermost.
 const FRAMES: NumberIn = NumberIn { low: 0, high: 2000 };
 
+// The bindings that a session attaches before the run; a plan has at most 4,096 bindings.
 const BEFORE: ListIn<Reference> = ListIn {
     low: 0,
     high: 4096,
@@ -54,7 +57,7 @@ impl Reader for FirstAct {
     }
 }
 
-/// Reads an act of a plan of the version.
+/// Reads an act of a plan of the version: an object with just one member.
 #[derive(Clone, Copy, Drop)]
 struct ActTable {
     version: u32,

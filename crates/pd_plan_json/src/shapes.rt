@@ -176,7 +176,8 @@ fn entries_of<R: Reader>(
     Ok(found)
 }
 
-/// Reads a list of `low` to `high` entries, of which at most `built` are served yet.
+/// Reads a list of `low` to `high` entries. This version serves at most `built` of them; more are refused as
+/// `NotBuilt`.
 #[derive(Drop)]
 pub(crate) struct ListIn<R> {
     pub(crate) low: usize,

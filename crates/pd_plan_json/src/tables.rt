@@ -14,6 +14,7 @@ use pd_values::Stop;
 use serde_json::Value;
 use std::alloc::Global;
 
+// The versions of the format; what a plan may have is the same in both.
 const VERSIONS: NumberIn = NumberIn { low: 1, high: 2 };
 
 const SOURCES: ListIn<Table<SourceMembers>> = ListIn {
@@ -30,6 +31,7 @@ const EXPORTS: ListIn<Table<ExportMembers>> = ListIn {
     entry: EXPORT,
 };
 
+// A plan may have 16 contexts; this version serves one.
 const CONTEXTS: ListIn<Table<ContextMembers>> = ListIn {
     low: 1,
     high: 16,
@@ -46,7 +48,7 @@ const BINDINGS: ListIn<BindingTable> = ListIn {
 
 const SESSION: &[&str] = &["before", "actions", "answers"];
 
-/// Reads a plan.
+/// Reads the members of a plan.
 #[derive(Drop)]
 struct PlanMembers;
 

@@ -42,7 +42,8 @@ fn plan_from(alloc: Global, bytes: &[u8]) -> Result<Plan, Stop<PlanRefusal>>
     Ok(plan)
 }
 
-/// The plan that the bytes are, or the first broken rule with its path.
+/// The plan that the bytes are, as JSON; or the first broken rule with its path, in the order of docs/FORMATS.md.
+/// Memory may run out at any point: then `Stop::Memory`.
 #[tactic(auto, using(crate::proofs::Served::plan_is_sound, crate::proofs::Served::plan_is_served))]
 pub fn read_plan(alloc: Global, bytes: &[u8]) -> Result<Plan, Stop<PlanRefusal>>
     ensures exact { Gives result (plan_at bytes.now) }

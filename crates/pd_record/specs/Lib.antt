@@ -1,3 +1,5 @@
+-- Definitions, which public contracts cite: Logs, Life, Seen, Served and Record.
+-- For the proofs alone: Step and Serving.
 pub mod Logs
 pub mod Life
 pub mod Seen

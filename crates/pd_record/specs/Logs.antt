@@ -1,4 +1,4 @@
--- What a context was answered by a binding at its events, and the binding's log.
+-- Definition: what a context was answered by a binding at its events, and the binding's log.
 -- The bindings are observers: one is given the Enters of the nodes in its row, and the ends of the activations whose Enter it was given.
 use Rattle.std.specs.Prelude.{ℕ, ◌==◌, ◌&&◌, Bool, true, false, not, if◌then◌else◌, List, [], ◌∷◌, map, filter, slice_index_or, Option, None, Some}
 use Rattle.std.specs.List.{list_any, filter_map}
@@ -24,14 +24,17 @@ abbrev pub answer_at : List Sight → ℕ → ℕ → Drawn
 answer_at [] event binding = Off
 answer_at (s ∷ ss) event binding = if is_of event binding s then s.drawn else answer_at ss event binding
 
+-- the place in the binding's log that a draw gave
 abbrev pub place_of : Drawn → Option ℕ
 place_of (On p) = Some p
 place_of _ = None
 
+-- whether a draw gave an entry
 abbrev pub is_on : Drawn → Bool
 is_on (On p) = true
 is_on _ = false
 
+-- whether a draw gave no number
 abbrev pub is_off : Drawn → Bool
 is_off Off = true
 is_off _ = false
@@ -42,6 +45,7 @@ is_number d = not (is_off d)
 
 -- ---- subject events
 
+-- whether an activation begins
 abbrev pub is_enter : EventKind → Bool
 is_enter Enter = true
 is_enter _ = false
@@ -55,6 +59,7 @@ stands_in table binding n = list_any (λ m. m == n) (slice_index_or table.rows b
 abbrev pub is_subject : MatchTable → List Sight → ℕ → Event → Bool
 is_subject table seen binding e = if is_enter e.kind then stands_in table binding e.node else is_on (answer_at seen e.opened binding)
 
+-- the events that the binding is about: the Enters in its row, and the ends of activations whose Enter it was given
 abbrev pub subject_events : MatchTable → List Sight → List Told → ℕ → List Told
 subject_events table seen events binding = filter (λ t. is_subject table seen binding t.event) events
 
@@ -64,6 +69,7 @@ answers_of table seen events binding = map (λ t. answer_at seen t.event.number 
 
 -- ---- logs
 
+-- the entry of an event in a log, at this place
 abbrev pub entry_of : ℕ → Event → ℕ → Entry
 entry_of context e place = record { context = context; event = e.number; opened = e.opened; place = place; kind = e.kind; node = e.node }
 

@@ -1,4 +1,5 @@
--- The record of one context: it is the program's run with no verdict given, and each binding's log is what was seen of it.
+-- Definition: the record of one context: it is the program's run with no verdict given, and each binding's log is what
+-- was seen of it.
 use Rattle.std.specs.Prelude.{◌≡◌, ℕ, ◌<◌, List, [], length, slice_index_or}
 use Rattle.pd_tree.specs.Program.{Program}
 use Rattle.pd_machine.specs.Events.{Told}

@@ -1,4 +1,4 @@
--- What a context saw and passed, beside the events of its run.
+-- Definition: what a context saw and passed, beside the events of its run.
 use Rattle.std.specs.Prelude.{◌≡◌, ℕ, ◌==◌, ◌&&◌, ◌||◌, Bool, true, not, nat_lt, nat_le, List, [], ◌∷◌, map, count_by}
 use Rattle.std.specs.List.{list_all, list_any}
 use Rattle.pd_machine.specs.Events.{Told}
@@ -20,13 +20,15 @@ in_order (s ∷ ss) = list_all (λ t. is_before t.event t.binding s) ss && in_or
 
 -- ---- Enters
 
--- how many Enters there are, how many of one node, and how many up to an event
+-- how many of the events are Enters
 abbrev pub enters : List Told → ℕ
 enters events = count_by (λ t. is_enter t.event.kind) events
 
+-- how many of the events are Enters of node n
 abbrev pub enters_of : ℕ → List Told → ℕ
 enters_of n events = count_by (λ t. is_enter t.event.kind && (n == t.event.node)) events
 
+-- how many of the events up to this one are Enters
 abbrev pub enters_to : ℕ → List Told → ℕ
 enters_to event events = count_by (λ t. is_enter t.event.kind && nat_le t.event.number event) events
 
@@ -46,6 +48,7 @@ is_subject_end_at table seen events event binding =
 abbrev pub is_due_pass : MatchTable → List Sight → List Told → Passed → Bool
 is_due_pass table seen events p = p.disposed && is_subject_end_at table seen events p.event p.binding && (p.before == enters_to p.event events)
 
+-- whether the binding was passed at the event
 abbrev pub is_pass_of : ℕ → ℕ → Passed → Bool
 is_pass_of event binding p = (p.event == event) && (p.binding == binding)
 

@@ -1,4 +1,4 @@
--- What a context gave a binding, and what it saw of it.
+-- Definition: what a context gave a binding, and what it saw of it.
 use Rattle.std.specs.Prelude.{◌≡◌, ℕ, true, List, []}
 use Rattle.std.specs.List.{list_all}
 use Rattle.pd_machine.specs.Events.{Told}

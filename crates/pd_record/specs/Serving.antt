@@ -1,3 +1,4 @@
+-- For the code's proofs: no public contract needs it.
 -- How far an event was served: the bindings that are left stand as before it, and all others as after it.
 use Rattle.std.specs.Prelude.{◌≡◌, ℕ, ◌≤◌, ◌==◌, ◌&&◌, ◌||◌, Bool, true, false, not, nat_lt, List, [], ◌∷◌, ◌++◌, slice_index_or, if◌then◌else◌, Option, Some, None}
 use Rattle.std.specs.List.{list_all, list_any, filter_map}
@@ -13,6 +14,7 @@ use Rattle.pd_record.specs.Seen.{is_before, enters, IsSeen}
 use Rattle.pd_record.specs.Served.{IsServed}
 use Rattle.pd_record.specs.Step.{is_below}
 
+-- the log of binding b
 abbrev pub log_at : List (List Entry) → ℕ → List Entry
 log_at logs b = slice_index_or logs b []
 
@@ -27,7 +29,7 @@ pub record IsCurrent (context : ℕ) (start : ℕ → Known) (n : ℕ) (ts : Lis
   pub served : (b : ℕ) → IsServed context (start b) s (log_at logs b) ts b
   pub below : list_all (is_below n) ts ≡ true
 
--- the event t behind these is served but for the bindings that are left
+-- the event t after these is served but for the bindings that are left
 pub record IsServing (context : ℕ) (start : ℕ → Known) (ts : List Told) (t : Told) (left : ℕ → Bool) (s : Standing) (logs : List (List Entry)) : Type 0 where
   pub seen : IsSeen s.table (ts ++ t ∷ []) s.sights s.sight_loads s.passes s.loads
   pub all : s.all_loads ≡ enters (ts ++ t ∷ [])
@@ -54,6 +56,7 @@ pub record IsLogged (context : ℕ) (t : Told) (b : ℕ) (d : Drawn) (old new : 
 
 -- ---- the bindings that an activation was given to
 
+-- the binding that a draw at this event gave an entry
 abbrev pub on_at : ℕ → Sight → Option ℕ
 on_at event s = if (s.event == event) && is_on s.drawn then Some s.binding else None
 

@@ -1,3 +1,4 @@
+-- For the code's proofs: no public contract needs it.
 -- What a step of the board makes of one binding.
 use Rattle.std.specs.Prelude.{◌≡◌, ℕ, ◌<◌, ◌+◌, ◌==◌, Bool, ◌&&◌, true, false, if◌then◌else◌, nat_lt, [], ◌∷◌, ◌++◌, IfSome}
 use Rattle.std.specs.List.{list_all}

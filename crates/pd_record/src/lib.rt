@@ -5,7 +5,7 @@ use pd_board::Sight;
 use pd_log::Entry;
 use pd_values::{End, Items, Text};
 
-/// The record of one context.
+/// The record of one context of a plan: its run, and what each binding was given of it.
 #[derive(Drop)]
 pub struct ContextRecord {
     /// The bytes that it wrote.

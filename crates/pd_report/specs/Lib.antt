@@ -1,3 +1,4 @@
+-- Definitions, which public contracts cite.
 pub mod Run
 pub mod Lines
 pub mod Transcript

@@ -122,7 +122,7 @@ fn push_detail(text: &mut String, names: &[Text], kind: &EventKind) -> Result<()
     }
 }
 
-// What stands in front of the node of an entry: its context, its number, its place and its kind.
+// What stands before the node of an entry: its context, its number, its place and its kind.
 fn push_event(text: &mut String, entry: &Entry) -> Result<(), AllocError>
     ensures { OnOk result (string_bytes text.new ≡ string_bytes text.old ++ joined (codes "  " ∷ decimal entry.now.context ∷ codes " " ∷ decimal entry.now.event ∷ codes " " ∷ decimal entry.now.place ∷ codes " " ∷ kind_text entry.now.kind ∷ [])) }
 {

@@ -15,7 +15,7 @@ use pd_tree::Program;
 use pd_values::Text;
 use std::alloc::{AllocError, Global};
 
-// The first line of a text, and what stands behind it.
+// The first line of a text, and what stands after it.
 fn next_line(text: &str) -> (&str, &str)
     requires { 0 < length text.now }
     ensures lines { lines_of text.now ≡ result.0.now ∷ lines_of result.1.now }
@@ -50,7 +50,7 @@ fn source_name(plan: &Plan, source: u32) -> &str
     }
 }
 
-// What a context runs.
+// What a context runs: the name of its source, and its entry.
 fn push_entry_name(text: &mut String, plan: &Plan, context: usize) -> Result<(), AllocError>
     ensures { OnOk result (string_bytes text.new ≡ string_bytes text.old ++ entry_name plan.now (slice_get plan.now.contexts context)) }
 {
@@ -250,7 +250,8 @@ fn push_bindings(
 }
 
 /// The text of a report: its contexts, then its sessions, then its bindings with their logs. Conditions: the nodes of
-/// its logs are ones of the program, and no binding is a breakpoint. Its error is want of memory alone.
+/// its logs are ones of the program, and no binding is a breakpoint. The only error is `AllocError`, where memory runs
+/// out. docs/FORMATS.md has the format.
 pub fn text_of(
     alloc: Global,
     report: &Report,
@@ -268,8 +269,8 @@ pub fn text_of(
     Ok(Text::of(text))
 }
 
-/// The line of a check: how many sources, nodes, contexts, bindings and sessions were read and loaded. Its error is want
-/// of memory alone.
+/// The line of a check: how many sources, nodes, contexts, bindings and sessions were read and loaded. The only error
+/// is `AllocError`, where memory runs out.
 pub fn check_line(alloc: Global, plan: &Plan, program: &Program) -> Result<Text, AllocError>
     ensures { IfOk result (λ text. text ≡ check_line plan.now program.now) }
 {

@@ -1,4 +1,4 @@
--- How a text splits into tokens and blanks, whatever the language.
+-- Definition: how a text splits into tokens and blanks, whatever the language.
 -- A language says of some bytes what they are as a whole: a blank, a token, a fault, or nothing (`piece_of`).
 -- A text splits from the left, each time into the longest piece that it begins with.
 use Rattle.std.specs.Prelude.{◌≡◌, ℕ, ◌+◌, ◌<◌, ◌≤◌, List, [], ◌∷◌, length, take, drop, Option, Some, None}
@@ -16,14 +16,14 @@ use Rattle.pd_sections.specs.declared.Stop.TheVariants.{Refused, Memory}
 abbrev pub Language : Type 0
 Language = List ℕ → Option Piece
 
--- the first `n` of the bytes are this piece, and no longer front of the bytes is a piece
+-- the first `n` of the bytes are this piece, and no longer prefix of the bytes is a piece
 pub record IsLongest (piece_of : Language) (bytes : List ℕ) (piece : Piece) (n : ℕ) : Type 0 where
   pub some : 0 < n
   pub within : n ≤ length bytes
   pub is : piece_of (take n bytes) ≡ Some piece
   pub longest : (m : ℕ) → n < m → m ≤ length bytes → piece_of (take m bytes) ≡ None
 
--- no front of the bytes is a piece
+-- no prefix of the bytes is a piece
 pub record StartsNoPiece (piece_of : Language) (bytes : List ℕ) : Type 0 where
   pub none : (m : ℕ) → 0 < m → m ≤ length bytes → piece_of (take m bytes) ≡ None
 
@@ -36,7 +36,7 @@ pub data Lexes (piece_of : Language) : ℕ → List ℕ → List Token → Type 
       → Lexes piece_of (at + n) (drop n bytes) tokens
       → Lexes piece_of at bytes (record { kind = kind; start = at; len = n } ∷ tokens)
 
--- Behind blanks and tokens, each the longest, comes the first offending place of the bytes:
+-- After blanks and tokens, each the longest, comes the first offending place of the bytes:
 -- one in the longest piece there, which is a fault, or a place where no piece starts.
 pub data Offends (piece_of : Language) : ℕ → List ℕ → Refusal → Type 0 where
   in_fault : {at : ℕ} {bytes : List ℕ} {rule : Rule} {behind : ℕ} (n : ℕ) → IsLongest piece_of bytes (Fault rule behind) n
@@ -48,7 +48,7 @@ pub data Offends (piece_of : Language) : ℕ → List ℕ → Refusal → Type 0
   behind_token : {at : ℕ} {bytes : List ℕ} {refusal : Refusal} {kind : TokenKind} (n : ℕ) → IsLongest piece_of bytes (Word kind) n
       → Offends piece_of (at + n) (drop n bytes) refusal → Offends piece_of at bytes refusal
 
--- the tokens stand one behind the other between these two places, and none is empty
+-- the tokens stand one after the other between these two places, and none is empty
 abbrev pub InOrder : ℕ → ℕ → List Token → Type 0
 InOrder from to [] = from ≤ to
 InOrder from to (token ∷ tokens) = (from ≤ token.start) × (0 < token.len) × InOrder (token.start + token.len) to tokens
@@ -66,7 +66,7 @@ pub record IsRefused (piece_of : Language) (bytes : List ℕ) (refusal : Refusal
   pub splits_not : (tokens : List Token) → Lexes piece_of 0 bytes tokens → ⊥
   pub within : refusal.at < length bytes
 
--- a text is given up for its first offending place, or for want of memory
+-- a text is given up for its first offending place, or where memory runs out
 abbrev pub StopsAt : Language → List ℕ → Stop Refusal → Type 0
 StopsAt piece_of bytes (Refused refusal) = IsRefused piece_of bytes refusal
 StopsAt piece_of bytes Memory = Unit {0}

@@ -1,4 +1,4 @@
--- What the languages' pieces have in common.
+-- Definition: what the languages' pieces have in common.
 use Rattle.std.specs.Prelude.{ℕ, Bool, true, false, ◌&&◌, ◌||◌, ◌==◌, nat_le, if◌then◌else◌, List, [], ◌∷◌, Option, Some, None}
 use Rattle.std.specs.List.{list_any}
 use Rattle.std.specs.Str.{bytes_eq}
@@ -18,6 +18,7 @@ is_digit byte = nat_le 48 byte && nat_le byte 57
 abbrev pub is_line_end : ℕ → Bool
 is_line_end byte = (byte == 10) || (byte == 13)
 
+-- whether there is no byte
 abbrev pub is_empty : List ℕ → Bool
 is_empty [] = true
 is_empty (byte ∷ bytes) = false

@@ -1,4 +1,4 @@
--- Lines and columns, by counting the line ends that lie wholly before a place.
+-- Definition: lines and columns, by counting the line ends that lie wholly before a place.
 -- `\n` (10), `\r\n` (13, 10) and `\r` (13) each end a line. Between the two bytes of `\r\n` the line hasn't ended.
 use Rattle.std.specs.Prelude.{ℕ, ◌+◌, suc, zero, Bool, false, ◌&&◌, ◌||◌, ◌==◌, not, if◌then◌else◌, List, [], ◌∷◌}
 
@@ -23,9 +23,10 @@ after_line_end bytes zero = 0
 after_line_end [] (suc at) = suc at
 after_line_end (byte ∷ bytes) (suc at) = if line_ends (byte ∷ bytes) (suc at) == 0 then suc at else after_line_end bytes at
 
--- the line and the column of the place behind the first `at` bytes; both start at 1, and a column counts bytes
+-- the line of the place after the first `at` bytes, from 1
 abbrev pub line_at : List ℕ → ℕ → ℕ
 line_at bytes at = 1 + line_ends bytes at
 
+-- the column of the place after the first `at` bytes, from 1; it counts bytes
 abbrev pub column_at : List ℕ → ℕ → ℕ
 column_at bytes at = 1 + after_line_end bytes at

@@ -1,9 +1,10 @@
+-- Twin of the code, for its proofs: no public contract needs it.
 -- The table of line starts that a source keeps.
 use Rattle.std.specs.Prelude.{◌≡◌, ℕ, ◌+◌, ◌-◌, ◌≤◌, suc, if◌then◌else◌, List, [], ◌∷◌, length, slice_index}
 use Rattle.std.specs.Str.{IsUtf8}
 use Rattle.pd_sections.specs.Positions.{ends_line, line_ends, after_line_end}
 
--- the places behind the line ends of these bytes, which begin at this place
+-- the places after the line ends of these bytes, which begin at this place
 abbrev pub starts_behind : ℕ → List ℕ → List ℕ
 starts_behind place [] = []
 starts_behind place (byte ∷ bytes) =

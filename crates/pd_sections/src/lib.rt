@@ -11,7 +11,7 @@ ghost use Rattle.pd_sections.specs.Lexing.{Language, IsLongest, StartsNoPiece, L
 use std::alloc::{AllocError, AllocFailed, Global};
 use std::marker::Model;
 
-/// The most bytes that a source has.
+/// The most bytes that a source has: 2^20.
 pub const MOST_BYTES: usize = 1_048_576;
 
 /// A stretch of a source: `len` bytes from byte `start` on. `source` is the source's number in its plan.
@@ -22,13 +22,18 @@ pub struct Section {
     pub len: u32,
 }
 
-/// What a token is.
+/// What a token is; docs/LANGUAGES.md has the tokens of each language.
 #[derive(Clone, Copy, PartialEq, Eq, Debug)]
 pub enum TokenKind {
+    /// A name that is no keyword.
     Name,
+    /// Digits.
     Number,
+    /// A text of SL, with its two `"`.
     Text,
+    /// A name that the language keeps for itself.
     Keyword,
+    /// An operator, a bracket or another mark, of one or two bytes.
     Symbol,
 }
 
@@ -40,20 +45,32 @@ pub struct Token {
     pub len: u32,
 }
 
-/// Why a source is refused.
+/// Why a source is refused. docs/LANGUAGES.md has the rules, and says which is told where several are broken.
 #[derive(Clone, Copy, PartialEq, Eq, Debug)]
 pub enum Rule {
+    /// A character that begins no token, or in SL a `\` in a text.
     BadByte,
+    /// A `"` of SL whose text isn't closed on its line.
     OpenText,
+    /// A `/*` of SL whose comment isn't closed.
     OpenComment,
+    /// A token up to which no program is spelled, or an end that comes too early.
     Unexpected,
+    /// A number above 9223372036854775807.
     LiteralTooLarge,
+    /// A name of PL/0 in a factor or at the start of a statement that no visible declaration has.
     Undeclared,
+    /// A constant or procedure of PL/0 at the start of a statement.
     NotAssignable,
+    /// A `call` of a constant or variable of PL/0.
     NotAProcedure,
+    /// A procedure of PL/0 in a factor.
     NotAValue,
+    /// A name that its block of PL/0 has declared already.
     Doubled,
+    /// The token makes the nesting deeper than 200.
     TooDeep,
+    /// The sources of the plan up to this one have more than 65,536 nodes.
     TooManyNodes,
 }
 
@@ -64,15 +81,18 @@ pub struct Refusal {
     pub at: u32,
 }
 
-/// What some bytes of a text are: white space or a comment, a token, or a fault, `behind` bytes after their first.
+/// What some bytes of a text are.
 #[derive(Clone, Copy, PartialEq, Eq, Debug)]
 pub enum Piece {
+    /// White space, or a comment.
     Blank,
+    /// A token.
     Word(TokenKind),
+    /// They offend against the rule, `behind` bytes after their first.
     Fault { rule: Rule, behind: u32 },
 }
 
-/// The bytes of a source aren't UTF-8; the first `at` of them are, and no longer front is.
+/// The bytes of a source aren't UTF-8; `at` is the length of the longest prefix that is UTF-8.
 #[derive(Clone, Copy, PartialEq, Eq, Debug)]
 pub struct NotUtf8 {
     pub at: u32,
@@ -81,7 +101,9 @@ pub struct NotUtf8 {
 /// Why a call gave up: it refuses what it was given, or memory ran out.
 #[derive(Drop, PartialEq, Eq, Debug)]
 pub enum Stop<R: Drop> {
+    /// What was given is refused, for this cause.
     Refused(R),
+    /// Memory ran out.
     Memory,
 }
 
@@ -178,6 +200,7 @@ impl Model for Source {
 
 impl Source {
     /// The source of this name with these bytes, at most `MOST_BYTES` of them. It is refused exactly where they aren't UTF-8.
+    /// Memory may run out: then `Stop::Memory`.
     pub fn new(alloc: Global, name: String, bytes: Vec<u8>) -> Result<Source, Stop<NotUtf8>>
         requires { vec_len bytes ≤ MOST_BYTES }
         ensures kept { IfOk result (λ source. source ≡ record { name = string_bytes name; bytes = bytes.items }) }
@@ -212,7 +235,7 @@ impl Source {
         self.bytes.as_slice()
     }
 
-    /// The line of the place behind the first `at` bytes, from 1 on.
+    /// The line of the place after the first `at` bytes, from 1 on.
     pub fn line_of(&self, at: u32) -> u32
         requires { at ≤ length self.now.bytes }
         ensures { result ≡ line_at self.now.bytes at }
@@ -220,7 +243,7 @@ impl Source {
         self.position_of(at).0
     }
 
-    /// The column of the place behind the first `at` bytes, from 1 on; it counts bytes.
+    /// The column of the place after the first `at` bytes, from 1 on; it counts bytes.
     pub fn column_of(&self, at: u32) -> u32
         requires { at ≤ length self.now.bytes }
         ensures { result ≡ column_at self.now.bytes at }
@@ -228,7 +251,7 @@ impl Source {
         self.position_of(at).1
     }
 
-    /// The line and the column of the place behind the first `at` bytes.
+    /// The line and the column of the place after the first `at` bytes.
     fn position_of(&self, at: u32) -> (u32, u32)
         requires { at ≤ length self.now.bytes }
         ensures line { result.0 ≡ line_at self.now.bytes at }
@@ -248,9 +271,9 @@ impl Source {
     }
 }
 
-/// A language as a lexer knows it.
+/// A language as a lexer knows it: what its pieces are, and the longest one that a text begins with.
 pub trait Lexicon {
-    // What some bytes are as a whole.
+    // What some bytes are, taken as a whole, if they are one piece.
     ghost piece_of: { Language };
 
     /// The longest piece that the bytes begin with, and its length, if they begin with one.

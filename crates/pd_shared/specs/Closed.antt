@@ -1,3 +1,4 @@
+-- Definition, which public contracts cite.
 -- What the tally of a board says, by all seats that were on it.
 use Rattle.std.specs.Prelude.{◌≡◌, ℕ, ◌+◌, ◌<◌, ◌≤◌, ◌^◌, ◌==◌, ◌&&◌, nat_lt, Bool, true, false, if◌then◌else◌, List, [], ◌∷◌, ◌++◌, length, slice_index, slice_index_or, count_by}
 use Rattle.std.specs.List.{All, filter_map}
@@ -30,11 +31,12 @@ use Rattle.pd_shared.specs.Book.{known_at}
 abbrev pub tally_by : ℕ → ℕ → BindingTally
 tally_by w n = record { state = state_by (disposed w == 1) (attached w == 1); count = if disposed w == 1 then n else sum_in w }
 
--- those of the first k bindings, whose words begin at `first`
+-- the tallies are those of the first k bindings, whose words begin at `first`
 pub record AreTallies (words : List ℕ) (first : ℕ) (counts : List ℕ) (k : ℕ) (tallies : List BindingTally) : Type 0 where
   pub length_is : length tallies ≡ k
   pub each : (b : ℕ) → b < k → slice_index_or tallies b no_tally ≡ tally_by (slice_index words (first + b)) (slice_index counts b)
 
+-- the numbers are those in k words from the word `first` on
 pub record AreNumbers (words : List ℕ) (first k : ℕ) (numbers : List ℕ) : Type 0 where
   pub length_is : length numbers ≡ k
   pub each : (s : ℕ) → s < k → slice_index numbers s ≡ slice_index words (first + s)
@@ -50,6 +52,7 @@ abbrev pub is_first_answer : Attach → Bool
 is_first_answer attaches.Already = false
 is_first_answer _ = true
 
+-- whether the answer is one of an attach of b before which none had been tried
 abbrev pub is_first : ℕ → ActResult → Bool
 is_first b (acts.Attached c a) = c == b && is_first_answer a
 is_first b _ = false
@@ -76,9 +79,11 @@ abbrev pub all_of : {A : Type 0} → (Entries → List A) → List A → List Si
 all_of pick own [] = own
 all_of pick own (s ∷ ss) = all_of pick (own ++ pick s.journal) ss
 
+-- all draws: those of this seat, and those of the seats that left
 abbrev pub all_sights : Entries → List Sights → List Sight
 all_sights e left = all_of (λ d. d.sights) e.sights left
 
+-- all answers of acts: those of this seat, and those of the seats that left
 abbrev pub all_replies : Entries → List Sights → List ActResult
 all_replies e left = all_of (λ d. d.replies) e.replies left
 

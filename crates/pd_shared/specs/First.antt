@@ -1,3 +1,4 @@
+-- For the code's proofs: no public contract needs it.
 -- A token that did nothing: nothing is kept.
 use Rattle.std.specs.Prelude.{◌≡◌, ℕ, List, false, None}
 use Rattle.pd_board.specs.Chain.{has}

@@ -1,3 +1,4 @@
+-- Definition: `IsHeld`; the rest is for proofs.
 -- What a token keeps of its share of the seats, and of what disposals found.
 use Rattle.std.specs.Prelude.{◌≡◌, ℕ, ◌<◌, ◌≤◌, ◌^◌, true, List, length, slice_index, slice_set}
 use Rattle.pd_board.specs.declared.answers.Dispose.{Dispose}
@@ -7,6 +8,7 @@ use Rattle.pd_core.specs.Layout.{Layout, bindings}
 use Rattle.pd_core.specs.Views.{of_all, disposals, count_kept}
 use Rattle.pd_shared.specs.Tied.{none_taken}
 
+-- what the token keeps of its share of the seats, and of the counts of disposals, fits the view
 pub record IsHeld (p : Layout) (v : View) (seats : ℕ) (counts : List ℕ) : Type 0 where
   -- it has at least so many shares; where it took no other in, just so many, and at most as many as there are
   pub share : seats ≤ v.seat_share

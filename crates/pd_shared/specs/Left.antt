@@ -1,3 +1,4 @@
+-- Definition, which public contracts cite.
 -- What a split leaves, and what a retired seat leaves to the one that takes it in.
 use Rattle.std.specs.Prelude.{◌≡◌, ℕ, ◌+◌, ◌-◌, ◌<◌, max, false, List, [], ◌∷◌}
 use Rattle.pd_core.specs.declared.view.Deeds.{Deeds}

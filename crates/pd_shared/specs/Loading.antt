@@ -1,3 +1,4 @@
+-- Definition: `last_word` and `bit_loaded`; the rest is for proofs.
 -- What the row words of a load say of the bindings, and how far a load has come.
 use Rattle.std.specs.Prelude.{◌≡◌, ℕ, ◌+◌, ◌/◌, ◌%◌, ◌<◌, ◌≤◌, ◌==◌, Bool, true, false, if◌then◌else◌, List, [], ◌∷◌, Option, Some, None}
 use Rattle.pd_plan.specs.declared.table.MatchTable.{MatchTable}

@@ -1,3 +1,4 @@
+-- Definition: `later`; the rest is a twin of the code, for its proofs.
 -- What a seat makes of the lists of one that it takes in.
 use Rattle.std.specs.Prelude.{◌≡◌, ℕ, ◌<◌, ◌≤◌, max, List, length, slice_index_or}
 use Rattle.pd_board.specs.declared.answers.Known.{Known}

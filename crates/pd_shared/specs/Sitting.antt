@@ -1,3 +1,4 @@
+-- Definition, which public contracts cite.
 -- Where a seat stands.
 use Rattle.std.specs.Prelude.{◌≡◌, ℕ, ◌==◌, if◌then◌else◌, slice_index, Option, Some, None}
 use Rattle.std.specs.List.{filter_map}
@@ -21,6 +22,7 @@ pub record Sitting : Type 0 where
 abbrev pub number_for : ℕ → ℕ × ℕ → Option ℕ
 number_for s p = if p.0 == s then Some p.1 else None
 
+-- where the seat stands, by what its token keeps and what its view knows
 abbrev pub standing_of : Sitting → Standing
 standing_of s = record {
   table = s.table;

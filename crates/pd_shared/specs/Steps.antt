@@ -1,3 +1,4 @@
+-- Definition, which public contracts cite.
 -- The steps of each call of a seat, and how many they are.
 use Rattle.std.specs.Prelude.{◌≡◌, ℕ, zero, suc, ◌+◌, ◌*◌, ◌/◌, ◌≤◌, ◌==◌, Bool, true, false, if◌then◌else◌, List, [], ◌∷◌, length, slice_index}
 use Rattle.pd_board.specs.declared.answers.Known.{Known}
@@ -55,17 +56,19 @@ ChainSteps p n rows v next = (w : ℕ) × (m : View) × Took p (load_node n) v w
 
 -- ---- how many they are
 
+-- a call that is one step raises the number of steps by one
 abbrev pub CountsOne : Type 0
 CountsOne = (p : Layout) (k : Kind) (v next : View) → TookOne p k v next → next.steps ≡ v.steps + 1
 
--- one for the summary, and one for each bit that it has
+-- a load of a node takes one step for the summary, and one for each bit that it has
 abbrev pub CountsChain : Type 0
 CountsChain = (p : Layout) (n rows : ℕ) (v next : View) → ChainSteps p n rows v next → next.steps ≡ v.steps + (1 + rows)
 
+-- an attach takes two steps for each node of the row, and one more
 abbrev pub CountsAttach : Type 0
 CountsAttach = (p : Layout) (b : ℕ) (v next : View) → AttachSteps p b v next → next.steps ≡ v.steps + (2 * length (row p b) + 1)
 
--- one or two, and one where the binding was known as attached
+-- a draw takes one or two steps, and one where the binding was known as attached
 abbrev pub CountsDraw : Type 0
 CountsDraw = (p : Layout) (event b : ℕ) (v next : View) (drawn : Drawn) (later : Known) → DrawSteps p event b v next drawn later
     → (v.steps + 1 ≤ next.steps) × (next.steps ≤ v.steps + 2) × (known v b ≡ found_attached → next.steps ≡ v.steps + 1)

@@ -1,3 +1,4 @@
+-- Definition, which public contracts cite.
 -- The steps that a call took, as its view tells.
 use Rattle.std.specs.Prelude.{◌≡◌, ℕ, ◌/◌, ◌%◌, List, ◌==◌, Bool, true, false, if◌then◌else◌}
 use Rattle.pd_core.specs.declared.view.View.{View}
@@ -18,18 +19,21 @@ use Rattle.pd_board.specs.declared.answers.Drawn.TheVariants as drawns
 abbrev pub Took : Layout → Kind → View → ℕ → View → Type 0
 Took p k v w next = Found p k v w × (next ≡ after p k w v)
 
--- what a draw gives, and what is known then, by the word that it found
+-- the answer of a draw that found the binding live or not, off or not, and with this sum
 abbrev pub drawn_as : Bool → Bool → ℕ → Drawn
 drawn_as true true n = drawns.Missed n
 drawn_as true false n = drawns.On n
 drawn_as false _ n = drawns.Off
 
+-- the answer of a draw that found the word w
 abbrev pub drawn_by : ℕ → Drawn
 drawn_by w = drawn_as (live w) (off w == 1) (sum_in w)
 
+-- what is known of a binding after a draw that found the word w
 abbrev pub known_drawn : ℕ → Known
 known_drawn w = if live w then knowns.Attached else knowns.Disposed
 
+-- what is known of a binding after a look at its word w, which isn't live
 abbrev pub known_looked : ℕ → Known
 known_looked w = if disposed w == 1 then knowns.Disposed else knowns.Fresh
 

@@ -12,7 +12,7 @@ use std::alloc::{AllocError, Global};
 
 impl SharedBoard {
     /// Ends the board: how each binding ended up, and how many answers of each session were taken. Condition: the token
-    /// is one of this board. Answers `AllocError` where memory is wanting, and has used up the board then too.
+    /// is one of this board. Where memory runs out it answers `AllocError`, and the board is used up all the same.
     pub fn close(self, alloc: Global, last: Token) -> Result<Tally, AllocError>
         requires { IsOf self.core last }
         ensures { IfOk result (λ t. IsClosed self.core.layout last t) }

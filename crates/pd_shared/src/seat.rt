@@ -38,7 +38,7 @@ impl<'b> Model for Seat<'b> {
 impl<'b> Seat<'b> {
     ghost use Rattle.pd_shared.specs.Sitting.{IsOf};
 
-    /// Rises: what the seat has, without the board. It is a token of that board.
+    /// Gives up the seat, and keeps all that it has but the board: a token of that board, with which one can sit again.
     pub fn rise(self) -> Token
         ensures token { result ≡ self.entry.token }
         ensures of { IsOf self.entry.hub result }
@@ -109,7 +109,8 @@ impl<'b> Seat<'b> {
     }
 
     /// A further seat on the same board, for another thread. It knows what this one knows and has a share of what this
-    /// may still take; it has done nothing. Condition: this one has what is handed on. Want of memory changes nothing.
+    /// may still take; it has done nothing. Condition: this one has what is handed on. Where memory runs out it answers
+    /// `AllocError`, and nothing is changed.
     pub fn split(&mut self, alloc: Global) -> Result<Seat<'b>, AllocError>
         requires { MaySplit self.old.hub.layout self.old.token.pass.view }
         ensures old { OnOk result (HasHanded self.old self.new) }
@@ -127,7 +128,8 @@ impl<'b> Seat<'b> {
         })
     }
 
-    /// Ends this seat: what it did. The other seat, which is of the same board, takes in its shares and what it knows.
+    /// Ends this seat, and gives what it did. The other seat, which is of the same board, takes in its shares and what
+    /// it knows.
     pub fn retire(self, into: &mut Seat<'_>) -> Sights
         requires { into.old.hub ≡ self.hub }
         ensures leaves { Leaves self.entry.token result }

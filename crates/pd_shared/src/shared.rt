@@ -12,7 +12,7 @@ use pd_plan::MatchTable;
 use pd_values::{Items, NodeId};
 use std::alloc::{AllocError, Global};
 
-/// All shares of the seats, which the first token has.
+/// All shares of the seats, 2^32, which the first token has: each split hands on one.
 pub(crate) const ALL_SEATS: u64 = 1 << 32;
 
 /// The shared words, and the rows of the bindings. It takes no lock, and no call on it waits.
@@ -55,8 +55,8 @@ impl SharedBoard {
     ghost use Rattle.pd_board.specs.Standing.{IsNew};
     ghost use Rattle.pd_shared.specs.Sitting.{IsOf, standing_of};
 
-    /// A board with all words 0, and the first token, which has all shares and did nothing. Condition: there are at most 4,096 rows,
-    /// each rises, and its nodes are below `nodes`. Answers `AllocError` where memory is wanting.
+    /// A board with all words 0, and the first token, which has all shares and did nothing. Condition: there are at
+    /// most 4,096 rows, each rises, and its nodes are below `nodes`. Where memory runs out it answers `AllocError`.
     pub fn new(
         alloc: Global,
         matches: &MatchTable,

@@ -1,4 +1,4 @@
-//! What a seat leaves when it rises.
+//! What a seat has without its board.
 ghost use Rattle.std.specs.Prelude.{◌≡◌, ℕ, false, replicate, None, IfOk};
 ghost use Rattle.pd_board.specs.Chain.{has};
 ghost use Rattle.pd_shared.specs.First.{IsFirst};
@@ -18,6 +18,7 @@ pub(crate) struct Reads {
 }
 
 impl Reads {
+    /// Nothing was read.
     pub(crate) fn new() -> Reads
         ensures { result ≡ unread }
     {

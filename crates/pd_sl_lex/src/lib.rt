@@ -13,7 +13,7 @@ use pd_sections::{Lexicon, MOST_BYTES, Piece, Refusal, Rule, Source, Stop, Token
 use std::alloc::Global;
 
 /// The tokens of an SL source, or its first offending place: a byte that starts no token, a `\` in a text, or the start
-/// of a text or a comment that isn't closed.
+/// of a text or a comment that isn't closed. docs/LANGUAGES.md has the tokens.
 pub fn lex(alloc: Global, source: &Source) -> Result<Tokens, Stop<Refusal>>
     ensures tokens { IfOk result (Splits sl_piece source.now.bytes) }
     ensures refused { IfErr result (StopsAt sl_piece source.now.bytes) }
@@ -132,7 +132,7 @@ fn fault(rule: Rule, behind: u32) -> Piece
     Piece::Fault { rule, behind }
 }
 
-/// What a text is whose bytes behind the `"` are these.
+/// What a text is whose bytes after the `"` are these.
 fn closed_text(bytes: &[u8]) -> Piece
     requires { length bytes.now < MOST_BYTES }
     ensures { result ≡ closed_text bytes.now }
@@ -145,7 +145,7 @@ fn closed_text(bytes: &[u8]) -> Piece
     }
 }
 
-/// How many of the bytes behind a `"` belong to the text, if it is closed.
+/// How many of the bytes after a `"` belong to the text, if it is closed.
 fn text_end(bytes: &[u8]) -> Option<usize>
     ensures end { result ≡ text_end bytes.now }
     ensures within { IfSome result (λ len. len ≤ length bytes.now) }
@@ -174,7 +174,7 @@ fn found_slash(rest: &[u8]) -> (Piece, u32)
     }
 }
 
-/// How many of the bytes behind a `/*` belong to the comment, if it is closed.
+/// How many of the bytes after a `/*` belong to the comment, if it is closed.
 fn comment_end(bytes: &[u8]) -> Option<usize>
     ensures end { result ≡ comment_end bytes.now }
     ensures within { IfSome result (λ len. len ≤ length bytes.now) }

@@ -1,4 +1,4 @@
--- The nodes of a source as they are added to its tree.
+-- Definition: the nodes of a source as they are added to its tree.
 use Rattle.std.specs.Prelude.{◌≡◌, ℕ, ◌+◌, ◌-◌, ◌*◌, ◌<◌, ◌^◌, List, [], ◌∷◌, ◌++◌, length, take, drop, slice_index_or}
 use Rattle.std.specs.Str.{IsUtf8}
 use Rattle.pd_sections.specs.declared.Token.{Token}
@@ -41,6 +41,7 @@ pub record AreNames (bytes : List ℕ) (tokens : List Token) (first n : ℕ) (na
   pub many : length names ≡ n
   pub each : (k : ℕ) → k < n → IsText (text_at bytes tokens (first + 2 * k)) (slice_index_or names k [])
 
+-- the kind of a node with this shape whose first token is `first`, with the texts of its own tokens
 abbrev pub KindIs : List ℕ → List Token → Shape → ℕ → Kind → Type 0
 KindIs bytes tokens (shapes.Function n) first k =
     (name : List ℕ) × (names : List (List ℕ)) × (k ≡ SlFunction name names) × IsText (text_at bytes tokens (first + 1)) name × AreNames bytes tokens (first + 3) n names
@@ -71,7 +72,7 @@ pub record IsAdditionOf (bytes : List ℕ) (tokens : List Token) (source : ℕ) 
   pub children : a.children ≡ node.parts
   pub constants : a.constants ≡ []
 
--- the additions of nodes in the order of their text, behind the earlier ones, of which the latest is the first
+-- the additions of nodes in the order of their text, after the earlier ones, of which the latest is the first
 abbrev pub AreAdditionsOf : List ℕ → List Token → ℕ → List Part → List (Node Part) → List Addition → Type 0
 AreAdditionsOf bytes tokens source earlier [] [] = Unit {0}
 AreAdditionsOf bytes tokens source earlier (x ∷ xs) (a ∷ as') =

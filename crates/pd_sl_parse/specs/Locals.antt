@@ -1,4 +1,4 @@
--- Which variable a name of SL means at a place. Places are numbers of tokens.
+-- Definition: which variable a name of SL means at a place. Places are numbers of tokens.
 -- `earlier` are the nodes that begin before the place, the latest first: up to the first function among them, they are those of
 -- the function that the place stands in.
 -- A name is a local where it is a parameter, or where an assignment to it has ended that stands in the same block or in an enclosing
@@ -12,15 +12,18 @@ use Rattle.pd_sl_read.specs.declared.parts.Shape.{Shape}
 use Rattle.pd_sl_read.specs.declared.parts.Shape.TheVariants as shapes
 use Rattle.pd_sl_parse.specs.Scopes.{text_at}
 
+-- whether the node is a function
 abbrev pub is_function : Shape → Bool
 is_function (shapes.Function n) = true
 is_function _ = false
 
+-- whether the node is a block, or a function's body
 abbrev pub is_block : Shape → Bool
 is_block shapes.Body = true
 is_block shapes.Block = true
 is_block _ = false
 
+-- whether the node is an assignment
 abbrev pub is_assignment : Shape → Bool
 is_assignment shapes.Assign = true
 is_assignment _ = false
@@ -38,6 +41,7 @@ block_end (q ∷ earlier) at =
     else if is_block q.shape && nat_lt at q.end then q.end
     else block_end earlier at
 
+-- the variable in this slot, if there is one
 abbrev pub local : Option ℕ → Meaning
 local None = Nothing
 local (Some slot) = Local 0 slot

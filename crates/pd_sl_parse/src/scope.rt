@@ -211,7 +211,7 @@ impl<'a> Scope<'a> {
         }
     }
 
-    /// What a node's name means, behind its first token.
+    /// What a node's name means, after its first token.
     pub fn meaning(&self, source: &'a Source, tokens: &Tokens, part: Part) -> Meaning
         requires { InOrder 0 (length source.now.bytes) tokens.now }
         ensures { result ≡ meaning_in part.shape source.now.bytes tokens.now part self.now }

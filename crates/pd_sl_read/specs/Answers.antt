@@ -1,4 +1,4 @@
--- What reading the tokens of a source answers.
+-- Definition: what reading the tokens of a source answers.
 use Rattle.std.specs.Prelude.{◌≡◌, ℕ, List}
 use Rattle.pd_sections.specs.declared.Token.{Token}
 use Rattle.pd_sections.specs.declared.Rule.{Rule}
@@ -15,6 +15,7 @@ use Rattle.pd_turn.specs.Turned.{pres}
 use Rattle.pd_sl_read.specs.Places.{posts, roses}
 use Rattle.pd_sl_read.specs.Tokens.{words_of, place_of}
 
+-- a rule of the spelling as a refusal tells it
 abbrev pub rule_of : spelling.Rule → Rule
 rule_of spelling.Unexpected = rules.Unexpected
 rule_of spelling.LiteralTooLarge = rules.LiteralTooLarge
@@ -25,7 +26,7 @@ rule_of spelling.TooManyNodes = rules.TooManyNodes
 abbrev pub AreNodesOf : ℕ → List ℕ → List Token → List (Node Part) → Type 0
 AreNodesOf room bytes tokens nodes = (T : Trees) × Accepts room (words_of bytes tokens) T × (nodes ≡ pres (roses 0 T))
 
--- the same nodes, each behind its parts
+-- the same nodes, each after its parts
 abbrev pub AreNodesBehind : ℕ → List ℕ → List Token → List (Node Part) → Type 0
 AreNodesBehind room bytes tokens nodes = (T : Trees) × Accepts room (words_of bytes tokens) T × (nodes ≡ posts 0 T)
 
@@ -37,6 +38,7 @@ pub record IsRefused (room : ℕ) (bytes : List ℕ) (tokens : List Token) (refu
   pub rule_is : refusal.rule ≡ rule_of rule
   pub place_is : refusal.at ≡ place_of bytes tokens at
 
+-- a call stops with the first breach of a rule, or for memory
 abbrev pub StopsFor : ℕ → List ℕ → List Token → Stop Refusal → Type 0
 StopsFor room bytes tokens (Refused refusal) = IsRefused room bytes tokens refusal
 StopsFor room bytes tokens Memory = Unit {0}

@@ -1,3 +1,5 @@
+-- Definitions, which public contracts cite: Places, Tokens and Answers.
+-- For the proofs alone: Held and Behind.
 pub mod Held
 pub mod Places
 pub mod Behind

@@ -1,4 +1,4 @@
--- Where the parts of a program stand, by the numbers of its words, and its nodes, each behind its parts.
+-- Definition: where the parts of a program stand, by the numbers of its words, and its nodes, each after its parts.
 use Rattle.std.specs.Prelude.{ℕ, ◌+◌, ℤ, pos, Bool, true, false, nat_lt, List, [], ◌∷◌, ◌++◌, Option, Some, None}
 use Rattle.pd_tree.specs.declared.kind.Operator.{Operator}
 use Rattle.pd_tree.specs.declared.kind.Operator.TheVariants as operators
@@ -12,6 +12,7 @@ use Rattle.pd_sl_read.specs.declared.parts.Shape.{Shape}
 use Rattle.pd_sl_read.specs.declared.parts.Shape.TheVariants as shapes
 use Rattle.pd_sl_read.specs.Held.{node, literal}
 
+-- the operator of a comparison
 abbrev pub comparison : Comparing → Operator
 comparison Equal = operators.Equal
 comparison NotEqual = operators.NotEqual
@@ -20,14 +21,17 @@ comparison LessEq = operators.LessEq
 comparison Greater = operators.Greater
 comparison GreaterEq = operators.GreaterEq
 
+-- the operator of a `+` or `-`
 abbrev pub addition : Adding → Operator
 addition Plus = operators.Add
 addition Minus = operators.Sub
 
+-- the operator of a `*` or `/`
 abbrev pub multiplication : Multiplying → Operator
 multiplication Times = operators.Mul
 multiplication Over = operators.Div
 
+-- the value n, unless it is too large
 abbrev pub value_within : Bool → ℕ → Option ℤ
 value_within true n = None
 value_within false n = Some (pos n)
@@ -36,11 +40,12 @@ value_within false n = Some (pos n)
 abbrev pub value_of : ℕ → Option ℤ
 value_of n = value_within (nat_lt largest n) n
 
--- the place behind the parameters and their `)`
+-- the place after the parameters and their `)`
 abbrev pub more_parameters_end : ℕ → List (List ℕ) → ℕ
 more_parameters_end i [] = i
 more_parameters_end i (x ∷ xs) = more_parameters_end ((i + 1) + 1) xs
 
+-- the place after the parameters, from after the `(` on
 abbrev pub parameters_end : ℕ → List (List ℕ) → ℕ
 parameters_end i [] = i
 parameters_end i (x ∷ xs) = more_parameters_end (i + 1) xs
@@ -49,7 +54,7 @@ parameters_end i (x ∷ xs) = more_parameters_end (i + 1) xs
 abbrev pub body_place : ℕ → List (List ℕ) → ℕ
 body_place i xs = parameters_end (((i + 1) + 1) + 1) xs + 1
 
--- The place behind a tree whose first word is at `i`.
+-- The place after a tree whose first word is at `i`.
 abbrev mutual
   pub end_of : ℕ → Tree → ℕ
   end_of i (name x) = i + 1
@@ -75,23 +80,27 @@ abbrev mutual
   end_of i (block ss) = trees_end (i + 1) ss + 1
   end_of i (function x xs b) = end_of (body_place i xs) b
 
-  -- behind the `)` of a call's arguments, from behind its `(` on
+  -- after the `)` of a call's arguments, from after its `(` on
   pub arguments_end : ℕ → Trees → ℕ
   arguments_end i none = i + 1
   arguments_end i (also e es) = more_arguments_end (end_of i e) es
 
+  -- and after further arguments, each with the `,` before it
   pub more_arguments_end : ℕ → Trees → ℕ
   more_arguments_end i none = i + 1
   more_arguments_end i (also e es) = more_arguments_end (end_of (i + 1) e) es
 
+  -- and after trees, one after another
   pub trees_end : ℕ → Trees → ℕ
   trees_end i none = i
   trees_end i (also t ts) = trees_end (end_of i t) ts
 
+-- the number of the trees
 abbrev pub count : Trees → ℕ
 count none = 0
 count (also t ts) = count ts + 1
 
+-- the number of the names
 abbrev pub length_of : List (List ℕ) → ℕ
 length_of [] = 0
 length_of (x ∷ xs) = length_of xs + 1
@@ -123,18 +132,22 @@ abbrev mutual
   post_as s i (block ss) = posts (i + 1) ss ++ node s i (trees_end (i + 1) ss + 1) (count ss) ∷ []
   post_as s i (function x xs b) = post_as shapes.Body (body_place i xs) b ++ node (shapes.Function (length_of xs)) i (end_of (body_place i xs) b) 1 ∷ []
 
+  -- and of the arguments of a call
   pub argument_posts : ℕ → Trees → List (Node Part)
   argument_posts i none = []
   argument_posts i (also e es) = post_as shapes.Block i e ++ more_argument_posts (end_of i e) es
 
+  -- and of further arguments, each with a `,` before it
   pub more_argument_posts : ℕ → Trees → List (Node Part)
   more_argument_posts i none = []
   more_argument_posts i (also e es) = post_as shapes.Block (i + 1) e ++ more_argument_posts (end_of (i + 1) e) es
 
+  -- and of trees, one after another
   pub posts : ℕ → Trees → List (Node Part)
   posts i none = []
   posts i (also t ts) = post_as shapes.Block i t ++ posts (end_of i t) ts
 
+-- the nodes of a tree whose first word is at `i`, each after its parts
 abbrev pub post : ℕ → Tree → List (Node Part)
 post i t = post_as shapes.Block i t
 
@@ -142,6 +155,7 @@ post i t = post_as shapes.Block i t
 abbrev pub part : Shape → ℕ → ℕ → Part
 part s first end = record { shape = s; first = first; end = end }
 
+-- two parts
 abbrev pub two : Rose Part → Rose Part → Roses Part
 two a b = Turned.also a (Turned.also b Turned.none)
 
@@ -170,14 +184,17 @@ abbrev mutual
   rose_as s i (block ss) = rose (part s i (trees_end (i + 1) ss + 1)) (roses (i + 1) ss)
   rose_as s i (function x xs b) = rose (part (shapes.Function (length_of xs)) i (end_of (body_place i xs) b)) (Turned.also (rose_as shapes.Body (body_place i xs) b) Turned.none)
 
+  -- and of the arguments of a call
   pub argument_roses : ℕ → Trees → Roses Part
   argument_roses i none = Turned.none
   argument_roses i (also e es) = Turned.also (rose_as shapes.Block i e) (more_argument_roses (end_of i e) es)
 
+  -- and of further arguments, each with a `,` before it
   pub more_argument_roses : ℕ → Trees → Roses Part
   more_argument_roses i none = Turned.none
   more_argument_roses i (also e es) = Turned.also (rose_as shapes.Block (i + 1) e) (more_argument_roses (end_of (i + 1) e) es)
 
+  -- and of trees, one after another
   pub roses : ℕ → Trees → Roses Part
   roses i none = Turned.none
   roses i (also t ts) = Turned.also (rose_as shapes.Block i t) (roses (end_of i t) ts)

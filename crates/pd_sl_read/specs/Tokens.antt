@@ -1,4 +1,4 @@
--- The words of tokens.
+-- Definition: the words of tokens.
 use Rattle.std.specs.Prelude.{ℕ, zero, suc, ◌+◌, ◌-◌, ◌*◌, Bool, ◌==◌, if◌then◌else◌, List, [], ◌∷◌, length, take, drop, map, slice_index}
 use Rattle.pd_sections.specs.declared.Token.{Token}
 use Rattle.pd_sections.specs.declared.TokenKind.{TokenKind}
@@ -49,6 +49,7 @@ pair first =
     else if first == 38 then And
     else Or
 
+-- the word of a token of this kind with this text
 abbrev pub word_of : TokenKind → List ℕ → Word
 word_of kinds.Name text = Name text
 word_of kinds.Number text = Number (decimal 0 text)
@@ -57,16 +58,19 @@ word_of kinds.Text text = Text (take (length text - 2) (drop 1 text))
 word_of kinds.Keyword text = keyword (slice_index text 0)
 word_of kinds.Symbol text = if length text == 1 then single (slice_index text 0) else pair (slice_index text 0)
 
+-- the bytes of a token
 abbrev pub text_of : List ℕ → Token → List ℕ
 text_of bytes token = take token.len (drop token.start bytes)
 
+-- the word of a token of this source
 abbrev pub word_at : List ℕ → Token → Word
 word_at bytes token = word_of token.kind (text_of bytes token)
 
+-- the words of a source's tokens
 abbrev pub words_of : List ℕ → List Token → List Word
 words_of bytes tokens = map (word_at bytes) tokens
 
--- the first byte of a token, by its number; behind the last the length of the text
+-- the first byte of a token, by its number; after the last the length of the text
 abbrev pub place_of : List ℕ → List Token → ℕ → ℕ
 place_of bytes [] at = length bytes
 place_of bytes (token ∷ tokens) zero = token.start

@@ -89,7 +89,9 @@ pub enum Keyword {
 pub enum Head {
     Function(u32),
     While,
+    /// The first block of an `if`.
     Then,
+    /// The second block of an `if`.
     Else,
 }
 
@@ -105,14 +107,18 @@ pub struct Block {
     pub in_loop: bool,
 }
 
-/// What is open and nests: a block, a condition with its statement's first token, parentheses, a call
-/// with the number of its arguments so far, or an assignment.
+/// What is open and nests.
 #[derive(Clone, Copy, Drop)]
 pub enum Frame {
+    /// A `{`.
     Block(Block),
+    /// The `(` of a condition, with its statement's first token.
     Condition(Keyword, u32),
+    /// A `(` in an expression, with what waits around it.
     Parens(Levels),
+    /// The `(` of a call, with what waits around it and the number of its arguments so far.
     Arguments(Levels, u32),
+    /// The right side of an assignment, with what waits around it.
     Assignment(Levels),
 }
 

@@ -12,7 +12,7 @@ use std::marker::Model;
 /// The most brackets and right sides of assignments that may be open.
 const MOST_DEPTH: usize = 200;
 
-/// What has been read of a source: what is open, and the nodes so far, each behind its parts.
+/// What has been read of a source: what is open, and the nodes so far, each after its parts.
 #[derive(Drop)]
 pub struct Reader {
     mode: Mode,
@@ -61,7 +61,7 @@ fn fresh(at: u32) -> Levels
     }
 }
 
-/// What the block behind a condition belongs to.
+/// What the block after a condition belongs to.
 fn head_of(keyword: Keyword) -> Head
     ensures { result ≡ head_of keyword }
 {
@@ -227,7 +227,7 @@ impl Reader {
         Ok(())
     }
 
-    /// `;` behind an expression.
+    /// `;` after an expression.
     fn end_statement(&mut self, at: u32) -> Result<bool, AllocError>
         requires room { HasRoom 2 self.old.stack }
         ensures { IfOk result (λ b. MatchBool b (statement_ended at self.old.stack self.old.nodes ≡ Some self.new) (statement_ended at self.old.stack self.old.nodes ≡ None)) }
@@ -243,7 +243,7 @@ impl Reader {
         Ok(true)
     }
 
-    /// `)` behind an expression.
+    /// `)` after an expression.
     fn close(&mut self, at: u32) -> Result<bool, AllocError>
         requires room { HasRoom 2 self.old.stack }
         requires few { at + 2 < 2 ^ 32 }
@@ -265,7 +265,7 @@ impl Reader {
         Ok(true)
     }
 
-    /// `,` behind an expression.
+    /// `,` after an expression.
     fn separate(&mut self, at: u32) -> Result<bool, AllocError>
         requires room { HasRoom 2 self.old.stack }
         requires few { at + 2 < 2 ^ 32 }
@@ -315,7 +315,7 @@ impl Reader {
         Ok(true)
     }
 
-    /// `||` behind an operand.
+    /// `||` after an operand.
     fn operate_or(&mut self, at: u32, levels: Levels) -> Result<(), AllocError>
         requires few { at + 2 < 2 ^ 32 }
         ensures { OnOk result (self.new ≡ holding (Mode.Wants (or_waits levels (at + 1))) self.old.stack (expression_folded levels at self.old.nodes)) }
@@ -333,7 +333,7 @@ impl Reader {
         Ok(())
     }
 
-    /// `&&` behind an operand.
+    /// `&&` after an operand.
     fn operate_and(&mut self, at: u32, levels: Levels) -> Result<(), AllocError>
         requires few { at + 2 < 2 ^ 32 }
         ensures { OnOk result (self.new ≡ holding (Mode.Wants (and_waits levels (at + 1))) self.old.stack (logic_term_folded levels at self.old.nodes)) }
@@ -351,7 +351,7 @@ impl Reader {
         Ok(())
     }
 
-    /// `+` or `-` behind an operand.
+    /// `+` or `-` after an operand.
     fn operate_sum(&mut self, at: u32, operator: Operator, levels: Levels) -> Result<(), AllocError>
         requires few { at + 2 < 2 ^ 32 }
         ensures { OnOk result (self.new ≡ holding (Mode.Wants (sum_waits operator levels (at + 1))) self.old.stack (arithmetic_folded levels at self.old.nodes)) }
@@ -368,7 +368,7 @@ impl Reader {
         Ok(())
     }
 
-    /// `*` or `/` behind an operand.
+    /// `*` or `/` after an operand.
     fn operate_product(
         &mut self,
         at: u32,
@@ -390,7 +390,7 @@ impl Reader {
         Ok(())
     }
 
-    /// A token behind an operand.
+    /// A token after an operand.
     fn operate(&mut self, at: u32, word: Word, levels: Levels) -> Result<bool, AllocError>
         requires room { HasRoom 2 self.old.stack }
         requires few { at + 2 < 2 ^ 32 }
@@ -410,7 +410,7 @@ impl Reader {
         Ok(true)
     }
 
-    /// A token behind an operand that may be called.
+    /// A token after an operand that may be called.
     fn call(&mut self, at: u32, word: Word, levels: Levels) -> Result<bool, AllocError>
         requires room { HasRoom 2 self.old.stack }
         requires few { at + 2 < 2 ^ 32 }
@@ -424,7 +424,7 @@ impl Reader {
         self.operate(at, word, levels)
     }
 
-    /// A token behind a name.
+    /// A token after a name.
     fn name(&mut self, at: u32, word: Word, levels: Levels) -> Result<bool, AllocError>
         requires room { HasRoom 2 self.old.stack }
         requires few { at + 2 < 2 ^ 32 }
@@ -465,7 +465,7 @@ impl Reader {
         Ok(true)
     }
 
-    /// `)` right behind the `(` of a call.
+    /// `)` right after the `(` of a call.
     fn close_empty(&mut self, at: u32) -> Result<bool, AllocError>
         requires few { at + 2 < 2 ^ 32 }
         ensures { IfOk result (λ b. MatchBool b (called_empty at self.old.stack self.old.nodes ≡ Some self.new) (called_empty at self.old.stack self.old.nodes ≡ None)) }
@@ -478,7 +478,7 @@ impl Reader {
         Ok(true)
     }
 
-    /// A token behind the `(` of a call.
+    /// A token after the `(` of a call.
     fn begin_arguments(&mut self, at: u32, word: Word) -> Result<bool, AllocError>
         requires few { at + 2 < 2 ^ 32 }
         ensures { IfOk result (λ b. MatchBool b (first_argument at word self.old.stack self.old.nodes ≡ Some self.new) (first_argument at word self.old.stack self.old.nodes ≡ None)) }
@@ -516,7 +516,7 @@ impl Reader {
         Ok(())
     }
 
-    /// `}` behind the statements of a block.
+    /// `}` after the statements of a block.
     fn close_block(&mut self, at: u32) -> Result<bool, AllocError>
         requires room { HasRoom 2 self.old.stack }
         requires few { at + 2 < 2 ^ 32 }
@@ -572,7 +572,7 @@ impl Reader {
         Ok(true)
     }
 
-    /// A token behind the block of an `if`.
+    /// A token after the block of an `if`.
     fn after_then(&mut self, at: u32, word: Word, first: u32) -> Result<bool, AllocError>
         requires room { HasRoom 3 self.old.stack }
         requires few { at + 2 < 2 ^ 32 }
@@ -587,7 +587,7 @@ impl Reader {
         self.inside(at, word)
     }
 
-    /// A token behind `return`.
+    /// A token after `return`.
     fn after_return(&mut self, at: u32, word: Word, first: u32) -> Result<bool, AllocError>
         requires room { HasRoom 2 self.old.stack }
         requires few { at + 2 < 2 ^ 32 }
@@ -667,7 +667,7 @@ impl Reader {
     }
 
     /// Takes the next token, if it may come here. `at` is its number, counted from 0.
-    /// After a token that may not come the reader has no meaning.
+    /// After a token that may not come, the contract says nothing of the reader.
     fn take(&mut self, at: u32, word: Word) -> Result<bool, AllocError>
         requires room { HasRoom 3 self.old.stack }
         requires few { at + 2 < 2 ^ 32 }
@@ -716,7 +716,7 @@ impl Reader {
         Ok(None)
     }
 
-    /// The nodes of the whole functions, where nothing is open behind the first.
+    /// The nodes of the functions, each after its parts, where there is one and the last one is whole.
     pub fn finish(self) -> Option<Vec<Node<Part>>>
         ensures { option_map (λ nodes. nodes.items) result ≡ finished self }
     {

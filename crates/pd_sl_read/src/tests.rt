@@ -35,7 +35,7 @@ fn label(shape: Shape) -> &'static str {
     }
 }
 
-/// The nodes, each as its kind, the numbers of its first token and of the one behind its last, and its parts.
+/// The nodes, each as its kind, the numbers of its first token and of the one after its last, and its parts.
 fn shown(alloc: Global, nodes: &[Node<Part>]) -> Result<String, AllocError> {
     let mut text = String::new(alloc);
     for node in nodes {

@@ -8,10 +8,10 @@ use crate::parts::Word;
 use pd_sections::{Section, Source, Token, TokenKind};
 use pd_tree::Operator;
 
-/// The largest number of 64 bits.
+/// The largest number of 64 bits with a sign: 2^63 - 1.
 const LARGEST: u64 = 9_223_372_036_854_775_807;
 
-/// The value of some digits, if it has 64 bits.
+/// The value of some digits, if it is at most `LARGEST`.
 fn number(digits: &[u8]) -> Option<i64>
     ensures { result ≡ value_of (decimal 0 digits.now) }
 {
@@ -28,7 +28,7 @@ fn number(digits: &[u8]) -> Option<i64>
     Some(value as i64)
 }
 
-/// The keyword that begins with this byte.
+/// The keyword that begins with this byte. The last arm is `debugger`: the lexer makes no other keyword.
 fn keyword(first: u8) -> Word
     ensures { result ≡ shape (keyword first) }
 {
@@ -44,7 +44,7 @@ fn keyword(first: u8) -> Word
     }
 }
 
-/// The symbol of this byte.
+/// The symbol of this byte. The last arm is `>`: the lexer makes no other symbol of one byte.
 fn single(first: u8) -> Word
     ensures { result ≡ shape (single first) }
 {
@@ -65,7 +65,7 @@ fn single(first: u8) -> Word
     }
 }
 
-/// The symbol of two bytes that begins with this one.
+/// The symbol of two bytes that begins with this one. The last arm is `||`: the lexer makes no other.
 fn pair(first: u8) -> Word
     ensures { result ≡ shape (pair first) }
 {

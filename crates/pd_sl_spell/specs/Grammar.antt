@@ -1,4 +1,4 @@
--- The grammar, a case for each alternative.
+-- Definition: the grammar, a case for each alternative.
 -- Each relation is between the words from some place on, the tree that they spell, and the words after it.
 use Rattle.std.specs.Prelude.{ℕ, Bool, true, false, IsTrue, List, [], ◌∷◌}
 use Rattle.pd_sl_spell.specs.Words.{Comparing, Adding, Multiplying, Word, Name, Number, Text, Or, And, Compares, Adds, Multiplies, Becomes, Open, Close, OpenBlock, CloseBlock, Comma, Semicolon, FunctionKey, WhileKey, IfKey, ElseKey, ReturnKey, BreakKey, ContinueKey, DebuggerKey, Tree, name, number, text, parens, call, assign, either, both, compared, sum, product, while, conditional, conditional_else, return_nothing, return, break, continue, debugger, expression_statement, block, function, Trees, none, also}
@@ -101,7 +101,7 @@ mutual
     a_debugger : {l : Bool} {r : List Word} → Statement l (DebuggerKey ∷ Semicolon ∷ r) debugger r
     an_expression : {l : Bool} {ts r : List Word} {e : Tree} → Expression ts e (Semicolon ∷ r) → Statement l ts (expression_statement e) r
 
-  -- [ "else" block ], behind the condition and the block of an `if`
+  -- [ "else" block ], after the condition and the block of an `if`
   pub data MayElse : Bool → Tree → Tree → List Word → Tree → List Word → Type 0 where
     no_else : {l : Bool} {c b : Tree} {r : List Word} → MayElse l c b r (conditional c b) r
     an_else : {l : Bool} {c b b' : Tree} {ts r : List Word} → Block l ts b' r → MayElse l c b (ElseKey ∷ ts) (conditional_else c b b') r
@@ -111,6 +111,7 @@ pub data MoreParameters : List Word → List (List ℕ) → List Word → Type 0
   no_more_parameters : {r : List Word} → MoreParameters (Close ∷ r) [] r
   next_parameter : {x : List ℕ} {xs : List (List ℕ)} {ts r : List Word} → MoreParameters ts xs r → MoreParameters (Comma ∷ Name x ∷ ts) (x ∷ xs) r
 
+-- the parameters of a function, after its `(`
 pub data Parameters : List Word → List (List ℕ) → List Word → Type 0 where
   no_parameter : {r : List Word} → Parameters (Close ∷ r) [] r
   first_parameter : {x : List ℕ} {xs : List (List ℕ)} {ts r : List Word} → MoreParameters ts xs r → Parameters (Name x ∷ ts) (x ∷ xs) r
@@ -124,5 +125,6 @@ pub data MoreFunctions : List Word → Trees → Type 0 where
   no_more_functions : MoreFunctions [] none
   next_function : {ts r : List Word} {f : Tree} {fs : Trees} → AFunction ts f r → MoreFunctions r fs → MoreFunctions ts (also f fs)
 
+-- the words are a program of these functions
 pub data Program : List Word → Trees → Type 0 where
   first_function : {ts r : List Word} {f : Tree} {fs : Trees} → AFunction ts f r → MoreFunctions r fs → Program ts (also f fs)

@@ -1,15 +1,17 @@
--- What refuses a source behind its words: the first breach, and at one word the first rule in this order.
+-- Definition: what refuses a source, by its words: the first breach of a rule, and at one word the first rule in this
+-- order.
 use Rattle.std.specs.Prelude.{◌≡◌, ℕ, ◌+◌, ◌<◌, ◌≤◌, List, [], ◌∷◌, ◌++◌, length, Result, Ok, Err}
 use Rattle.pd_sl_spell.specs.Words.{Word, Number, Becomes, Open, Close, OpenBlock, CloseBlock, Comma, Semicolon, Tree, parens, call, assign, either, both, compared, sum, product, while, conditional, conditional_else, return, expression_statement, block, function, Trees, none, also}
 use Rattle.pd_sl_spell.specs.Grammar.{Program}
 
+-- the rules by which a source is refused
 pub data Rule : Type 0 where
   Unexpected : Rule
   LiteralTooLarge : Rule
   TooDeep : Rule
   TooManyNodes : Rule
 
--- What is open behind some words: brackets, and assignments whose right side is being read.
+-- What is open after some words: brackets, and assignments whose right side is being read.
 pub data Opener : Type 0 where
   Bracket : Opener
   Assignment : Opener
@@ -20,10 +22,12 @@ without_assignments [] = []
 without_assignments (Assignment ∷ os) = without_assignments os
 without_assignments (Bracket ∷ os) = Bracket ∷ os
 
+-- without the innermost of what is open
 abbrev pub without_bracket : List Opener → List Opener
 without_bracket [] = []
 without_bracket (x ∷ os) = os
 
+-- what is open after one more word
 abbrev pub opened : List Opener → Word → List Opener
 opened os Open = Bracket ∷ os
 opened os OpenBlock = Bracket ∷ os
@@ -34,10 +38,12 @@ opened os Comma = without_assignments os
 opened os Semicolon = without_assignments os
 opened os w = os
 
+-- what is open after these words, where this was open before them
 abbrev pub open_behind : List Opener → List Word → List Opener
 open_behind os [] = os
 open_behind os (w ∷ ws) = open_behind (opened os w) ws
 
+-- how much is open after these words
 abbrev pub nesting : List Word → ℕ
 nesting ws = length (open_behind [] ws)
 
@@ -45,14 +51,16 @@ nesting ws = length (open_behind [] ws)
 abbrev pub Begins : List Word → Type 0
 Begins ws = (more : List Word) × (T : Trees) × Program (ws ++ more) T
 
+-- 2^63 - 1, the largest number that a source may have
 abbrev pub largest : ℕ
 largest = 9223372036854775807
 
+-- the word is a number above that
 abbrev pub IsTooLarge : Word → Type 0
 IsTooLarge (Number n) = largest < n
 IsTooLarge _ = ⊥
 
--- the word breaks the rule, behind the words before it
+-- the word breaks the rule, where these words stand before it
 abbrev pub Breaches : List Word → Word → Rule → Type 0
 Breaches before w Unexpected = Begins (before ++ w ∷ []) → ⊥
 Breaches before w LiteralTooLarge = IsTooLarge w
@@ -63,6 +71,7 @@ Breaches before w TooManyNodes = ⊥
 abbrev pub IsClean : List Word → Type 0
 IsClean ws = (before after : List Word) (w : Word) → ws ≡ before ++ w ∷ after → (rule : Rule) → Breaches before w rule → ⊥
 
+-- of two rules that one word breaks, the first is told
 abbrev pub Precedes : Rule → Rule → Type 0
 Precedes Unexpected LiteralTooLarge = Unit {0}
 Precedes Unexpected TooDeep = Unit {0}
@@ -105,7 +114,7 @@ abbrev mutual
   all_nodes (also t ts) = nodes t + all_nodes ts
 
 -- Why a source is refused: a word breaks a rule, or the words end too early, or make too many nodes.
--- The place behind the last word is the number of words.
+-- The place after the last word is the number of words.
 pub data Refuses (room : ℕ) (ws : List Word) (rule : Rule) (at : ℕ) : Type 0 where
   at_word : FirstBreach ws rule at → Refuses room ws rule at
   at_end : IsClean ws → ((T : Trees) → Program ws T → ⊥) → rule ≡ Unexpected → at ≡ length ws → Refuses room ws rule at
@@ -118,6 +127,7 @@ pub record Accepts (room : ℕ) (ws : List Word) (T : Trees) : Type 0 where
   pub clean : IsClean ws
   pub fits : all_nodes T ≤ room
 
+-- the answer is the trees that the words spell within the rules, or the first breach
 abbrev pub Answers : ℕ → List Word → Result Trees (Rule × ℕ) → Type 0
 Answers room ws (Ok T) = Accepts room ws T
 Answers room ws (Err e) = Refuses room ws e.0 e.1

@@ -1,6 +1,7 @@
--- The words of a source, and the trees that they spell.
+-- Definition: the words of a source, and the trees that they spell.
 use Rattle.std.specs.Prelude.{ℕ, List}
 
+-- the comparisons
 pub data Comparing : Type 0 where
   Equal : Comparing
   NotEqual : Comparing
@@ -9,10 +10,12 @@ pub data Comparing : Type 0 where
   Greater : Comparing
   GreaterEq : Comparing
 
+-- `+` and `-`
 pub data Adding : Type 0 where
   Plus : Adding
   Minus : Adding
 
+-- `*` and `/`
 pub data Multiplying : Type 0 where
   Times : Multiplying
   Over : Multiplying
@@ -45,6 +48,7 @@ pub data Word : Type 0 where
 
 -- A tree keeps the parentheses of its expressions, and says where an expression is a statement, so that it determines its words.
 mutual
+  -- a node of the source's tree, with its parts; `parens` keeps a pair of parentheses, which makes no node
   pub data Tree : Type 0 where
     name : List ℕ → Tree
     number : ℕ → Tree
@@ -69,13 +73,16 @@ mutual
     block : Trees → Tree
     function : List ℕ → List (List ℕ) → Tree → Tree
 
+  -- trees in order
   pub data Trees : Type 0 where
     none : Trees
     also : Tree → Trees → Trees
 
+-- one list of trees after another
 abbrev pub joined : Trees → Trees → Trees
 joined none ys = ys
 joined (also x xs) ys = also x (joined xs ys)
 
+-- the trees, and one more
 abbrev pub with_last : Trees → Tree → Trees
 with_last xs x = joined xs (also x none)

@@ -1,1 +1,2 @@
+-- Definitions, which public contracts cite.
 pub mod Sl

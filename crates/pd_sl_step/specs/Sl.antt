@@ -1,3 +1,4 @@
+-- Definition: `IsSl`; the rest is for proofs.
 -- Nodes of SL, and what a call calls.
 use Rattle.std.specs.Prelude.{ℕ, List, ◌∷◌, Option, None, Some}
 use Rattle.pd_values.specs.declared.value.Value.{Value}

@@ -1,4 +1,4 @@
--- What the answers of the top call say.
+-- Definition: what the answers of the top call say.
 use Rattle.std.specs.Prelude.{◌≡◌, ◌<◌, ◌⊎◌, ℕ, List, [], ◌∷◌, take, Option, Some, Bool, true, false, if◌then◌else◌, codes, Ok, Err}
 use Rattle.std.specs.Io.KnownBytes.{append_known}
 use Rattle.std.specs.List.{list_all}
@@ -89,7 +89,7 @@ IsReason reading (SourceRefused refusal) = IsDueTo reading (source_refused refus
 IsReason reading Memory = Unit {0}
 IsReason reading _ = ⊥
 
--- where the sink failed, it took some first bytes of the text
+-- what the answer says of what was read and written; where the sink failed, it took some first bytes of the text
 abbrev pub Tells : Reading → Writing → Outcome → Type 0
 Tells reading writing (Ran report) = (text : List ℕ) × IsWhole reading.words reading.held (unwritten.Ran report) text × IsWritten writing text
 Tells reading writing Checked = (line : List ℕ) × IsWhole reading.words reading.held unwritten.Checked line × IsWritten writing line
@@ -98,7 +98,7 @@ Tells reading writing (SinkFailed answer) =
     × (writing.before < writing.after) × IsWritten writing (take n text)
 Tells reading writing outcome = IsReason reading outcome
 
--- nothing was asked of the sink
+-- whether the answer is one with which nothing was asked of the sink
 abbrev pub is_unwritten : Outcome → Bool
 is_unwritten (Ran report) = false
 is_unwritten Checked = false
@@ -107,6 +107,7 @@ is_unwritten _ = true
 
 -- ---- which answer is given
 
+-- whether the answer is `Ran`
 abbrev pub is_ran : Outcome → Bool
 is_ran (Ran report) = true
 is_ran _ = false
@@ -119,7 +120,7 @@ IsAnswer command (source_refused refusal) outcome = outcome ≡ SourceRefused re
 IsAnswer (Check file) (accepted plan program) outcome = outcome ≡ Checked
 IsAnswer command (accepted plan program) outcome = is_ran outcome ≡ true
 
--- where the library tells what it holds and no call fails, the answer is that of the files' cause, or want of memory
+-- where the library tells what it holds and no call fails, the answer is that of the files' cause, or `Memory`
 abbrev pub IsDecided : Reading → Writing → Outcome → Type 0
 IsDecided reading writing outcome =
     (content : List ℕ → Option (List ℕ)) (command : Command) (cause : Cause)
@@ -129,13 +130,16 @@ IsDecided reading writing outcome =
 
 -- ---- the status of the process
 
+-- whether a run ended with a value
 abbrev pub is_done : End → Bool
 is_done (Done value) = true
 is_done _ = false
 
+-- the status of a report: 0 where each context is done, and else 7
 abbrev pub report_status : Report → ℕ
 report_status report = if list_all (λ context. is_done context.«end») report.contexts then 0 else 7
 
+-- the status with which the process ends
 abbrev pub status_of : Outcome → ℕ
 status_of (Ran report) = report_status report
 status_of Checked = 0
@@ -149,11 +153,13 @@ status_of Memory = 6
 
 -- ---- the line for standard error, without its end; none where the text was written
 
+-- the message for words that are no command
 abbrev pub usage_message : WordFault → List ℕ
 usage_message NoCommand = codes "polydbg: no command"
 usage_message UnknownCommand = codes "polydbg: unknown command"
 usage_message WordsRefused = codes "polydbg: words refused"
 
+-- the word of a rule on plans
 abbrev pub plan_rule_name : PlanRule → List ℕ
 plan_rule_name plans.NotJson = codes "NotJson"
 plan_rule_name plans.Missing = codes "Missing"
@@ -166,9 +172,11 @@ plan_rule_name plans.BadCondition = codes "BadCondition"
 plan_rule_name plans.NotAnObserver = codes "NotAnObserver"
 plan_rule_name plans.NotBuilt = codes "NotBuilt"
 
+-- the message for a refused plan: its rule, and the path to the value
 abbrev pub plan_message : PlanRefusal → List ℕ
 plan_message refusal = joined (codes "polydbg: plan " ∷ plan_rule_name refusal.rule ∷ codes " at " ∷ refusal.path ∷ [])
 
+-- the word of a rule on a source
 abbrev pub rule_name : Rule → List ℕ
 rule_name BadByte = codes "BadByte"
 rule_name OpenText = codes "OpenText"
@@ -183,7 +191,7 @@ rule_name Doubled = codes "Doubled"
 rule_name TooDeep = codes "TooDeep"
 rule_name TooManyNodes = codes "TooManyNodes"
 
--- what a source is refused for, and the byte, or the number of the export or context
+-- the word of what a source is refused for
 abbrev pub cause_name : LoadCause → List ℕ
 cause_name (Spelling refusal) = rule_name refusal.rule
 cause_name (NoSuchItem number) = codes "NoSuchItem"
@@ -191,6 +199,7 @@ cause_name (DoubledExport number) = codes "DoubledExport"
 cause_name (NoSuchEntry number) = codes "NoSuchEntry"
 cause_name (NotUtf8 at) = codes "NotUtf8"
 
+-- the number in a refusal's message: a byte, or the number of the export or the context
 abbrev pub cause_place : LoadCause → ℕ
 cause_place (Spelling refusal) = refusal.at
 cause_place (NoSuchItem number) = number
@@ -198,10 +207,12 @@ cause_place (DoubledExport number) = number
 cause_place (NoSuchEntry number) = number
 cause_place (NotUtf8 at) = at
 
+-- the message for a refused source: its number, the word of the cause, and the place
 abbrev pub refusal_message : LoadRefusal → List ℕ
 refusal_message refusal = joined (
     codes "polydbg: source " ∷ decimal refusal.source ∷ codes " " ∷ cause_name refusal.cause ∷ codes " at " ∷ decimal (cause_place refusal.cause) ∷ [])
 
+-- what is told on standard error; nothing for `Ran` and `Checked`, whose text was written
 abbrev pub message_of : Outcome → List ℕ
 message_of (Ran report) = []
 message_of Checked = []

@@ -1,4 +1,4 @@
--- What the files of a command say: the one cause of its answer, where no call of the outside fails.
+-- Definition: what the files of a command say: the one cause of its answer, where no call of the outside fails.
 use Rattle.std.specs.Prelude.{◌≡◌, ◌+◌, ◌⊎◌, ℕ, List, [], ◌∷◌, Option, Some, None, Result, Ok, Err}
 use Rattle.std.specs.List.{AllByRecursion}
 use Rattle.std.specs.Str.{IsUtf8, IsValidUpTo}
@@ -47,7 +47,7 @@ IsReached held command file =
 
 -- ---- the sources, all of which are read
 
--- the source of this number isn't UTF-8; the place is the length of its longest front that is
+-- the source of this number isn't UTF-8; the place is the length of its longest prefix that is
 abbrev pub IsNotText : ℕ → Written → LoadRefusal → Type 0
 IsNotText number w refusal = (at : ℕ) × IsValidUpTo w.bytes at × (refusal ≡ record { source = number; cause = NotUtf8 at })
 
@@ -63,6 +63,8 @@ IsFirstRefusal plan sources refusal =
 
 -- ---- the cause
 
+-- what the files of a command come to: a file is too long, the plan or a source is refused, or plan and program are
+-- accepted
 pub data Cause : Type 0 where
   too_long : List ℕ → Cause
   plan_refused : PlanRefusal → Cause

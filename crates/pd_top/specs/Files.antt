@@ -1,4 +1,4 @@
--- Files that a command reads: which are too long, and which one it comes to.
+-- Definition: files that a command reads: which are too long, and which one it comes to.
 use Rattle.std.specs.Prelude.{◌≡◌, ◌≤◌, ◌<◌, ◌⊎◌, ℕ, List, [], ◌∷◌, length, Option, Some, IfSome}
 use Rattle.pd_sections.specs.Written.{Written}
 use Rattle.pd_plan.specs.declared.plan.SourceSpec.{SourceSpec}

@@ -1,4 +1,4 @@
--- The plan that `trace` runs.
+-- Definition: the plan that `trace` runs.
 use Rattle.std.specs.Prelude.{ℕ, Bool, if◌then◌else◌, nat_eq, List, [], ◌∷◌, codes}
 use Rattle.std.specs.List.{ends_with}
 use Rattle.pd_values.specs.declared.value.Tag.TheVariants.{Statement}

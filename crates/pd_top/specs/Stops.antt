@@ -1,4 +1,5 @@
--- What stops the steps of a command before it writes; want of memory may stop each.
+-- For the code's proofs: no public contract needs it.
+-- What stops the steps of a command before it writes. Memory may run out in each: then it stops with `Memory`.
 use Rattle.std.specs.Prelude.{◌≡◌, ℕ, List, Option, Result, Ok, Err}
 use Rattle.pd_sections.specs.declared.Stop.{Stop}
 use Rattle.pd_sections.specs.declared.Stop.TheVariants as loading
@@ -16,53 +17,63 @@ use Rattle.pd_top.specs.Causes.{IsPlanRead, IsReached, IsNotText, IsFirstNotText
 
 -- ---- words
 
+-- what stops the reading of the file's name
 abbrev pub StopsFile : List (List ℕ) → Outcome → Type 0
 StopsFile words (Usage fault) = file_of words ≡ Err fault
 StopsFile words Memory = (file : List ℕ) × (file_of words ≡ Ok file)
 StopsFile words _ = ⊥
 
+-- what stops the reading of a command, where the words ask for this
 abbrev pub StopsCommand : Result Command WordFault → Outcome → Type 0
 StopsCommand asked (Usage fault) = asked ≡ Err fault
 StopsCommand asked Memory = (command : Command) × (asked ≡ Ok command)
 StopsCommand asked _ = ⊥
 
+-- what stops the reading of the words
 abbrev pub StopsWords : List (List ℕ) → Outcome → Type 0
 StopsWords words outcome = StopsCommand (command_of words) outcome
 
 -- ---- files; the library had so many faults before, has so many after, and this is the last one's name
 
+-- what stops the fetch of a file; `before`, `after` and `last` are the library's count of faults and its last fault
 abbrev pub StopsFetch : Held → List ℕ → ℕ → ℕ → Option (List ℕ) → Outcome → Type 0
 StopsFetch held file before after last (Unreadable name) = (name ≡ file) × IsFault before after last file
 StopsFetch held file before after last (TooLong name) = (name ≡ file) × IsLong held file
 StopsFetch held file before after last Memory = Unit {0}
 StopsFetch held file before after last _ = ⊥
 
+-- what stops the fetch of the sources, one after another
 abbrev pub StopsSources : Held → List SourceSpec → ℕ → ℕ → Option (List ℕ) → Outcome → Type 0
 StopsSources held sources before after last (Unreadable name) = IsReachedAmong held sources name × IsFault before after last name
 StopsSources held sources before after last (TooLong name) = IsReachedAmong held sources name × IsLong held name
 StopsSources held sources before after last Memory = Unit {0}
 StopsSources held sources before after last _ = ⊥
 
+-- what stops the reading of the plan's file
 abbrev pub StopsPlan : Held → List ℕ → ℕ → ℕ → Option (List ℕ) → Outcome → Type 0
 StopsPlan held file before after last (PlanRefused refusal) = IsPlanRead held file (Err refusal)
 StopsPlan held file before after last outcome = StopsFetch held file before after last outcome
 
 -- ---- loading
 
+-- what stops the making of one source
 abbrev pub StopsSource : ℕ → Written → Stop LoadRefusal → Type 0
 StopsSource number source (loading.Refused refusal) = IsNotText number source refusal
 StopsSource number source loading.Memory = Unit {0}
 
+-- what stops the making of the sources
 abbrev pub StopsTexts : List Written → Stop LoadRefusal → Type 0
 StopsTexts sources (loading.Refused refusal) = IsFirstNotText 0 sources refusal
 StopsTexts sources loading.Memory = Unit {0}
 
+-- what stops the loading of the sources
 abbrev pub StopsLoad : Plan → List Written → Stop LoadRefusal → Type 0
 StopsLoad plan sources (loading.Refused refusal) = IsFirstRefusal plan sources refusal
 StopsLoad plan sources loading.Memory = Unit {0}
 
 -- ---- plan and sources
 
+-- what stops a command before there are a plan and a program
 abbrev pub StopsAccepting : Held → Command → ℕ → ℕ → Option (List ℕ) → Outcome → Type 0
 StopsAccepting held command before after last (Unreadable name) = IsReached held command name × IsFault before after last name
 StopsAccepting held command before after last (TooLong name) = IsCause held command (too_long name)

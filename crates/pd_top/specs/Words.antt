@@ -1,4 +1,4 @@
--- What a list of words asks for.
+-- Definition: what a list of words asks for.
 use Rattle.std.specs.Prelude.{ℕ, Bool, false, if◌then◌else◌, ◌==◌, List, [], ◌∷◌, Result, Ok, Err, codes, map, String, string_bytes}
 use Rattle.std.specs.Str.{bytes_eq}
 use Rattle.std.specs.declared.alloc.Global.{Global}
@@ -11,13 +11,13 @@ use Rattle.pd_top.specs.declared.words.WordFault.TheVariants.{NoCommand, Unknown
 abbrev pub texts : List (String Global) → List (List ℕ)
 texts words = map string_bytes words
 
--- a `-` with more behind it
+-- a `-` with more after it
 abbrev pub is_dash_word : List ℕ → Bool
 is_dash_word [] = false
 is_dash_word (byte ∷ []) = false
 is_dash_word (byte ∷ next ∷ bytes) = byte == 45
 
--- the file of a command: the one word behind it
+-- the file of a command: the one word after it
 abbrev pub file_of : List (List ℕ) → Result (List ℕ) WordFault
 file_of [] = Err Refused
 file_of (file ∷ []) = if is_dash_word file then Err Refused else Ok file

@@ -54,7 +54,7 @@ fn plan_of<L: Library>(alloc: Global, command: &Command, files: &mut L) -> Resul
     }
 }
 
-/// The plan and the program of a command.
+/// The plan and the program of a command, or the answer where a file, the plan or a source is refused.
 pub(crate) fn accept<L: Library>(
     alloc: Global,
     command: &Command,

@@ -38,7 +38,7 @@ fn named(alloc: Global, name: &str) -> Result<Text, AllocError>
     Ok(Text::of(String::from_str(alloc, name)?))
 }
 
-/// The bytes of the file, at most as many as a plan or source may have.
+/// The bytes of the file, at most 1,048,576: as many as a plan or source may have.
 pub(crate) fn fetched<L: Library>(
     alloc: Global,
     name: &str,
@@ -61,7 +61,7 @@ pub(crate) fn fetched<L: Library>(
     Ok(bytes)
 }
 
-// The source of this name.
+// The file of this name, with its bytes.
 fn file_named<L: Library>(alloc: Global, name: &str, files: &mut L) -> Result<File, Outcome>
     ensures name { IfOk result (λ file. file.name ≡ name.now) }
     ensures content { IfOk result (λ file. IsShort (L.held files.old) name.now file.bytes) }

@@ -13,7 +13,7 @@ use pd_sections::{NotUtf8, Source, Stop};
 use pd_tree::Program;
 use std::alloc::Global;
 
-// The source of this number.
+// The source of this number, made of its file. A source's bytes are UTF-8.
 fn source_of(alloc: Global, number: u32, file: File) -> Result<Source, Stop<LoadRefusal>>
     ensures source { IfOk result (λ source. source ≡ file) }
     ensures text { OnOk result (IsText file) }
@@ -29,7 +29,7 @@ fn source_of(alloc: Global, number: u32, file: File) -> Result<Source, Stop<Load
     }
 }
 
-// The sources of these files.
+// The sources of these files, in their order, or the first whose bytes aren't UTF-8.
 fn sources_of(alloc: Global, files: Vec<File>) -> Result<Vec<Source>, Stop<LoadRefusal>>
     requires few { length files.items ≤ 16 }
     ensures sources { IfOk result (λ sources. sources.items ≡ files.items) }
@@ -44,7 +44,7 @@ fn sources_of(alloc: Global, files: Vec<File>) -> Result<Vec<Source>, Stop<LoadR
     Ok(sources)
 }
 
-/// The program of a plan with these files of its sources, in its order.
+/// The program of a plan, from the files of its sources in the plan's order; or the first refusal.
 pub(crate) fn program_of(
     alloc: Global,
     plan: &Plan,

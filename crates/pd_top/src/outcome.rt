@@ -13,23 +13,32 @@ use std::alloc::{AllocError, AllocFailed, Global};
 /// The answer that was to be given where its text couldn't be written whole.
 #[derive(Drop)]
 pub enum Unwritten {
+    /// A plan ran, with this report.
     Ran(Report),
+    /// A plan and its sources were accepted.
     Checked,
 }
 
-/// What became of a command. `Ran` has the report of a run whose text was written whole, `Checked` says that plan and
-/// sources are accepted and the line was written; `Usage` says why the words are no command; `Unreadable` and `TooLong`
-/// have the name of the file; `SinkFailed` has the answer that was to be given.
+/// What became of a command. docs/FORMATS.md has the status and the message of each.
 #[derive(Drop)]
 pub enum Outcome {
+    /// A plan ran, with this report, and its transcript was written whole.
     Ran(Report),
+    /// A plan and its sources are accepted, and the line was written whole.
     Checked,
+    /// The words are no command.
     Usage(WordFault),
+    /// The file of this name couldn't be read.
     Unreadable(Text),
+    /// The file of this name has more than 1,048,576 bytes.
     TooLong(Text),
+    /// The plan's file is no plan.
     PlanRefused(PlanRefusal),
+    /// A source, an export or an entry of the plan is refused.
     SourceRefused(LoadRefusal),
+    /// A write failed, so that this answer's text wasn't written whole.
     SinkFailed(Unwritten),
+    /// Memory ran out.
     Memory,
 }
 
@@ -146,7 +155,7 @@ impl Outcome {
 
     /// The status with which the process ends: 0, or 7 where a context ended otherwise than done; 1 for words that are
     /// no command, 2 for a file that is unreadable or too long, 3 for a refused plan, 4 for a refused source, 5 for a
-    /// failed write, 6 for want of memory.
+    /// failed write, 6 where memory ran out.
     pub fn status(&self) -> u8
         ensures { result ≡ status_of self.now }
     {
@@ -162,7 +171,7 @@ impl Outcome {
         }
     }
 
-    /// What is told on standard error, one line without its end; nothing where the text was written whole.
+    /// What is told on standard error, one line without its end; empty for `Ran` and `Checked`.
     pub fn message(&self, alloc: Global) -> Result<Text, AllocError>
         ensures { IfOk result (λ message. message ≡ message_of self.now) }
     {

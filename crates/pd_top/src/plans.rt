@@ -7,7 +7,7 @@ use pd_plan::{BindingSpec, ContextSpec, Filter, Language, Plan, Script, SourceSp
 use pd_values::{Items, Tag, Text};
 use std::alloc::{AllocError, Global};
 
-// The fuel of a context.
+// The fuel of the context: how many nodes its run may enter.
 const FUEL: u32 = 1_000_000;
 
 // A list of this one item.

@@ -16,7 +16,7 @@ use pd_values::Text;
 use std::alloc::{AllocError, Global};
 use std::thread::Threads;
 
-// So many bytes are written at once.
+// The most bytes that are written by one call of the sink.
 const PIECE: usize = 4_096;
 
 // Writes the bytes, piece after piece.
@@ -42,7 +42,7 @@ struct Prepared {
     text: Text,
 }
 
-// What a command answers for a plan and its program.
+// The answer of a command, with its text, for a plan and its program. Nothing is written here.
 fn answer_of<G: Gate>(
     alloc: Global,
     command: &Command,
@@ -70,7 +70,7 @@ fn answer_of<G: Gate>(
     }
 }
 
-// Does a command up to its text. An error is an answer with which nothing is written.
+// Does a command up to its text. An `Err` is the answer of a command that comes to no text.
 fn prepare<L: Library, G: Gate>(
     alloc: Global,
     words: &[String],
@@ -120,8 +120,9 @@ fn write_answer<K: Sink>(out: &mut K, prepared: Prepared) -> Outcome
 /// Does a command: reads the words and the files, makes the whole text and writes it in pieces. The order is: words, the
 /// plan's file, plan, the file of each source, whether all sources are UTF-8, load, run, text, write.
 ///
-/// `rt` is for the threads of later commands; the gate is asked at each event. A file is asked for with one byte more
-/// than a plan or source may have. Want of memory is free.
+/// `_rt` isn't used. The gate is asked at each event. Of a file at most 1,048,577 bytes are asked for: one more than a
+/// plan or source may have. Memory may run out at any call: then the answer is `Outcome::Memory`, and nothing is
+/// written.
 pub fn run<R: Threads + Sync, L: Library, K: Sink, G: Gate>(
     _rt: &R,
     alloc: Global,
@@ -135,7 +136,7 @@ pub fn run<R: Threads + Sync, L: Library, K: Sink, G: Gate>(
         (record { words = texts words.now; held = L.held files.old; before = L.faults files.old; after = L.faults files.new; last = L.last_fault files.new })
         (record { taken = K.taken out.old; now = K.taken out.new; before = K.faults out.old; after = K.faults out.new }) result }
 
-    // Which one is given: that of the one cause that the files have, where no call fails, or want of memory.
+    // Which one is given: where no call fails, that of the one cause that the files have, or `Memory`.
     ensures decided { IsDecided
         (record { words = texts words.now; held = L.held files.old; before = L.faults files.old; after = L.faults files.new; last = L.last_fault files.new })
         (record { taken = K.taken out.old; now = K.taken out.new; before = K.faults out.old; after = K.faults out.new }) result }

@@ -7,20 +7,25 @@ use crate::outcome::Outcome;
 use pd_values::Text;
 use std::alloc::Global;
 
-/// Why words are no command: there are none, the first is no command, or what follows it is refused.
+/// Why words are no command.
 #[derive(Clone, Copy, Drop, Debug, PartialEq, Eq)]
 pub enum WordFault {
+    /// There are no words.
     NoCommand,
+    /// The first word is none of `trace`, `run` and `check`.
     UnknownCommand,
+    /// After the first word there isn't just one, or it begins with `-` and has more characters.
     Refused,
 }
 
-/// What words ask for, with the name of the file: to run one source under an observer of all statements, to run a
-/// plan, or to check one.
+/// What words ask for, with the name of the file.
 #[derive(Drop)]
 pub enum Command {
+    /// To run the source in the file under an observer of all statements.
     Trace(Text),
+    /// To run the plan in the file.
     Run(Text),
+    /// To check the plan in the file without running it.
     Check(Text),
 }
 
@@ -30,7 +35,7 @@ fn is_dash_word(word: &str) -> bool
     word.len() > 1 && word.as_bytes()[0] == b'-'
 }
 
-// The one word.
+// The name of the file, where it is the one word, and no option: a `-` with more after it.
 fn file(alloc: Global, words: &[String]) -> Result<Text, Outcome>
     ensures { MatchResult result (λ file. file_of (texts words.now) ≡ Ok file) (StopsFile (texts words.now)) }
 {
@@ -40,7 +45,7 @@ fn file(alloc: Global, words: &[String]) -> Result<Text, Outcome>
     }
 }
 
-// The command of this name, with the words behind it.
+// The command of this name, with the words after it.
 fn named(alloc: Global, name: &str, words: &[String]) -> Result<Command, Outcome>
     ensures { MatchResult result
         (λ command. command_named name.now (file_of (texts words.now)) ≡ Ok command)

@@ -1,3 +1,4 @@
+-- Definition, which public contracts cite.
 -- What each operator with two operands gives.
 use Rattle.std.specs.Prelude.{ℕ, Bool, not, List, Result, Ok, Err}
 use Rattle.pd_values.specs.declared.value.Value.{Value}
@@ -8,6 +9,7 @@ use Rattle.pd_tree.specs.declared.kind.Operator.{Operator}
 use Rattle.pd_tree.specs.declared.kind.Operator.TheVariants.{Equal, NotEqual, Less, LessEq, Greater, GreaterEq, Add, Sub, Mul, Div}
 use Rattle.pd_values.specs.Operators.{ValueOrFault, add, sub, mul, div, compare, equal}
 
+-- the answer of a comparison as a value
 abbrev pub as_truth : Result Bool Fault → ValueOrFault
 as_truth (Ok b) = Ok (Truth b)
 as_truth (Err f) = Err f

@@ -1,3 +1,4 @@
+-- Definition, which public contracts cite.
 -- The tables of kinds: how many parts a node of each kind has, and which tags.
 use Rattle.std.specs.Prelude.{◌≡◌, ℕ, ◌≤◌, ◌⊎◌, Bool, true, false, if◌then◌else◌, List, [], ◌∷◌, ◌++◌}
 use Rattle.pd_values.specs.declared.value.Tag.{Tag}
@@ -77,10 +78,12 @@ pl_operator Mul = Expression ∷ []
 pl_operator Div = Expression ∷ []
 pl_operator _ = Expression ∷ Statement ∷ []
 
+-- the tags of a name of SL, by what it means
 abbrev pub sl_name : Meaning → Bool → List Tag
 sl_name (Local _ _) standing = expression standing (ReadVariable ∷ [])
 sl_name _ standing = expression standing []
 
+-- the tags of a node, by its kind, by what its name means, and by whether it stands as a statement or a condition
 abbrev pub tags_of : Kind → Meaning → Bool → List Tag
 tags_of (SlFunction _ _) meaning standing = Root ∷ []
 tags_of SlBody meaning standing = RootBody ∷ []

@@ -1,3 +1,4 @@
+-- Definitions, which public contracts cite.
 pub mod Program
 pub mod Binary
 pub mod Kinds

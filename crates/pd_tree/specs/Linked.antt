@@ -1,3 +1,4 @@
+-- Definition, which public contracts cite.
 -- The linked program of a list of additions: the nodes with their numbers, parts, tags, roots and variables, and the items.
 -- Additions come in the order of the nodes' numbers, each with the number of its parts, and a node's parts follow it from left to right.
 use Rattle.std.specs.Prelude.{ℕ, zero, suc, ◌+◌, ◌-◌, ◌^◌, ◌<◌, ◌≤◌, max, Bool, true, false, if◌then◌else◌, nat_lt, ◌==◌, ◌||◌, IsTrue, List, [], ◌∷◌, ◌++◌, length, take, drop, slice_index_or, Option, None, Some, bytes_eq, codes}
@@ -14,6 +15,7 @@ use Rattle.pd_tree.specs.Kinds.{is_root, root_name_of, HasParts, holds_statement
 abbrev pub no_addition : Addition
 no_addition = record { kind = PlEmpty; section = record { source = 0; start = 0; len = 0 }; line = 0; column = 0; meaning = Nothing; children = 0; constants = [] }
 
+-- the kind of node n
 abbrev pub kind_at : List Addition → ℕ → Kind
 kind_at all n = (slice_index_or all n no_addition).kind
 
@@ -57,6 +59,7 @@ pub record IsWhole (all : List Addition) : Type 0 where
 
 -- ---- how many variables a function or a procedure has: the slots are 0 and up
 
+-- how many slots are used from a node on, where `later` are used after it
 abbrev pub more_slots : Kind → Meaning → ℕ → ℕ
 more_slots (SlFunction _ _) meaning later = 0
 more_slots (SlAssign _) meaning later = max (slots_up_to meaning) later
@@ -69,6 +72,7 @@ assigned_slots (a ∷ rest) = more_slots a.kind a.meaning (assigned_slots rest)
 
 -- ---- variables that are seen
 
+-- whether one of the variables has this name
 abbrev pub sees_name : List ℕ → List Visible → Bool
 sees_name x [] = false
 sees_name x (v ∷ vs) = bytes_eq v.name x || sees_name x vs
@@ -93,6 +97,7 @@ abbrev pub without : List ℕ → List Visible → List Visible
 without x [] = []
 without x (v ∷ vs) = if bytes_eq v.name x then without x vs else v ∷ without x vs
 
+-- without the variables of these names
 abbrev pub without_all : List (List ℕ) → List Visible → List Visible
 without_all [] seen = seen
 without_all (x ∷ xs) seen = without_all xs (without x seen)
@@ -107,16 +112,16 @@ abbrev pub from_inside : List Visible → List Visible
 from_inside [] = []
 from_inside (v ∷ vs) = record { name = v.name; up = v.up + 1; slot = v.slot } ∷ from_inside vs
 
--- what is seen behind a node's first byte: a function sees its parameters; a procedure its own variables, and then those around it that
--- its name, its variables and its constants don't hide
+-- what is seen after a node's first byte: a function sees its parameters; a procedure its own variables, and then those
+-- around it that its name, its variables and its constants don't hide
 abbrev pub seen_inside : Kind → List (List ℕ) → List Visible → List Visible
 seen_inside (SlFunction _ parameters) constants seen = with_parameters [] parameters
 seen_inside (PlProcedure name variables) constants seen =
     declared 0 variables ++ from_inside (without_all constants (without_all variables (without name seen)))
 seen_inside _ constants seen = seen
 
--- what is seen behind a node's last byte, where `outside` was seen at its first: the variables of a block end with it, an assignment's
--- variable begins, and a procedure's name hides a variable from then on
+-- what is seen after a node's last byte, where `outside` was seen at its first: the variables of a block end with it,
+-- an assignment's variable begins, and a procedure's name hides a variable from then on
 abbrev pub seen_behind : Kind → Meaning → List Visible → List Visible → List Visible
 seen_behind (SlFunction _ _) meaning outside seen = outside
 seen_behind SlBlock meaning outside seen = outside
@@ -132,7 +137,7 @@ procedure_names all (m ∷ ms) = elim (kind_at all m) [
   | _ ↦ procedure_names all ms
 ]
 
--- what a node sees: a function's root its parameters, a procedure's root what its body sees, behind its inner procedures
+-- what a node sees: a function's root its parameters, a procedure's root what its body sees, after its inner procedures
 abbrev pub seen_at : Kind → List (List ℕ) → List (List ℕ) → List Visible → List Visible
 seen_at (SlFunction name parameters) constants inner seen = seen_inside (SlFunction name parameters) constants seen
 seen_at (PlProcedure name variables) constants inner seen = without_all inner (seen_inside (PlProcedure name variables) constants seen)
@@ -165,6 +170,7 @@ closed all (x ∷ xs) seen = elim x.left [
   | suc _ ↦ record { open_nodes = x ∷ xs; seen = seen }
 ]
 
+-- one part less is to come to the innermost open node
 abbrev pub part_came : List Open → List Open
 part_came [] = []
 part_came (x ∷ xs) = record x { left = x.left - 1; first = false } ∷ xs
@@ -174,15 +180,17 @@ abbrev pub next_stands : List Addition → List Open → Bool
 next_stands all [] = false
 next_stands all (x ∷ xs) = holds_statements (kind_at all x.node) x.first
 
+-- the function or procedure in which the next node stands; a function or procedure stands in itself
 abbrev pub next_root : Kind → ℕ → List Open → ℕ
 next_root kind n [] = n
 next_root kind n (x ∷ xs) = if is_root kind then n else x.root
 
+-- how many procedures stand around that one
 abbrev pub next_level : Kind → List Open → ℕ
 next_level kind [] = 0
 next_level kind (x ∷ xs) = if is_root kind then x.level + 1 else x.level
 
--- the walk behind the first byte of node n, and behind the node where it has no parts
+-- the walk after the first byte of node n, and after the node where it has no parts
 abbrev pub walked : List Addition → ℕ → Walk → Addition → Walk
 walked all n w a =
     closed all
@@ -196,11 +204,13 @@ abbrev pub linked : Meaning → Option ℕ → Meaning
 linked meaning None = meaning
 linked meaning (Some i) = Means i
 
+-- how many variables a function or procedure has; 0 for any other node
 abbrev pub slots_of : Kind → List Addition → ℕ
 slots_of (SlFunction _ parameters) rest = max (length (with_parameters [] parameters)) (assigned_slots rest)
 slots_of (PlProcedure _ variables) rest = length variables
 slots_of _ rest = 0
 
+-- the linked node of an addition, where the walk has come to it
 abbrev pub node_of : List Addition → List (Option ℕ) → ℕ → Walk → Addition → List Addition → Node
 node_of all found n w a rest = let meaning = linked a.meaning (slice_index_or found n None) in record {
   kind = a.kind;
@@ -223,16 +233,19 @@ abbrev pub nodes_from : List Addition → List (Option ℕ) → ℕ → Walk →
 nodes_from all found n w [] = []
 nodes_from all found n w (a ∷ rest) = node_of all found n w a rest ∷ nodes_from all found (n + 1) (walked all n w a) rest
 
+-- the linked nodes of these additions, in their order
 abbrev pub nodes_of : List Addition → List (Option ℕ) → List Node
 nodes_of all found = nodes_from all found 0 (record { open_nodes = []; seen = [] }) all
 
 -- ---- items: `println`, and then all functions, procedures and main blocks in the order of their nodes
 
+-- the items of these nodes, of which the first has the number n
 abbrev pub items_from : ℕ → List Addition → List Item
 items_from n [] = []
 items_from n (a ∷ rest) =
     if is_root a.kind then record { name = root_name_of a.kind; root = Some n } ∷ items_from (n + 1) rest else items_from (n + 1) rest
 
+-- the items of a program: `println`, and then each function, procedure and main block, in the order of the nodes
 abbrev pub items_of : List Addition → List Item
 items_of all = record { name = codes "println"; root = None } ∷ items_from 0 all
 
@@ -241,6 +254,7 @@ abbrev pub main_of : ℕ → List Addition → Option ℕ
 main_of n [] = None
 main_of n (a ∷ rest) = elim a.kind [ PlProcedure name variables ↦ Some n | _ ↦ None ]
 
+-- the root of the main block of each source, where it has one; the first node of the first source has the number n
 abbrev pub mains_from : ℕ → List (List Addition) → List (Option ℕ)
 mains_from n [] = []
 mains_from n (t ∷ ts) = main_of n t ∷ mains_from (n + length t) ts

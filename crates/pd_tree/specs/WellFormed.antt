@@ -1,3 +1,4 @@
+-- Definition, which public contracts cite.
 -- What is true of every linked program.
 use Rattle.std.specs.Prelude.{◌≡◌, ℕ, ◌<◌, ◌≤◌, IsTrue, List, [], ◌∷◌, length, slice_index_or, Option, None, Some}
 use Rattle.pd_tree.specs.declared.kind.Meaning.{Meaning}
@@ -16,8 +17,9 @@ MeansAnItem items (Means i) = i < items
 MeansAnItem items (Local up slot) = Unit {0}
 MeansAnItem items Nothing = Unit {0}
 
+-- what is true of node n of a linked program
 pub record IsLinked (p : Program) (n : ℕ) : Type 0 where
-  -- a part stands behind the node
+  -- a part stands after the node
   pub parts : AllBehind n (length p.nodes) (node_at p n).children
   pub arity : HasParts (node_at p n).kind (length (node_at p n).children)
   -- its root is a function or a procedure, at or before it
@@ -30,6 +32,7 @@ abbrev pub IsRootOf : Program → Option ℕ → Type 0
 IsRootOf p None = Unit {0}
 IsRootOf p (Some n) = (n < length p.nodes) × IsTrue (is_root (node_at p n).kind)
 
+-- what is true of every linked program: its nodes are linked, and its items, main blocks and entries are there
 pub record IsWellFormed (p : Program) : Type 0 where
   pub nodes : (n : ℕ) → n < length p.nodes → IsLinked p n
   pub items : (i : ℕ) → i < length p.items → IsRootOf p (item_at p i).root

@@ -71,7 +71,8 @@ impl Builder {
     }
 
     /// Adds the next node, with the number of its parts, which come after it. `meaning` is `Local` for a variable and
-    /// else `Nothing`; `line` and `column` are those of the section's first byte. Without memory nothing is added.
+    /// else `Nothing`; `line` and `column` are those of the section's first byte. Where memory runs out, nothing is
+    /// added.
     pub fn add(
         &mut self,
         kind: Kind,
@@ -105,7 +106,7 @@ impl Builder {
     }
 
     /// Adds the next node as [`Builder::add`] does, with all that it has; for a procedure whose block declares
-    /// constants. Without memory nothing is added.
+    /// constants. Where memory runs out, nothing is added.
     pub fn push(&mut self, addition: Addition) -> Result<(), AllocError>
         ensures added { OnOk result (self.new ≡ self.old ++ addition ∷ []) }
         ensures same { OnErr result (self.new ≡ self.old) }

@@ -1,4 +1,4 @@
--- The nodes of trees, each behind its parts, and each before them.
+-- Definition: the nodes of trees, each after its parts, and each before them.
 use Rattle.std.specs.Prelude.{ℕ, zero, suc, ◌-◌, List, [], ◌∷◌, ◌++◌, nat_lt, if◌then◌else◌}
 use Rattle.pd_turn.specs.declared.Node.{Node}
 use Rattle.pd_turn.specs.declared.Pending.{Pending}
@@ -11,11 +11,12 @@ mutual
     none : Roses T
     also : Rose T → Roses T → Roses T
 
+-- the number of the trees
 abbrev pub count : {T : Type 0} → Roses T → ℕ
 count none = 0
 count (also t ts) = suc (count ts)
 
--- the nodes of the trees, each behind its parts
+-- the nodes of the trees, each after its parts
 abbrev mutual
   pub post : {T : Type 0} → Rose T → List (Node T)
   post (rose x ts) = posts ts ++ record { what = x; parts = count ts } ∷ []
@@ -40,6 +41,7 @@ part_done (p ∷ k) out =
     let r = part_done k (out ++ p.node ∷ []) in
     if nat_lt 1 p.missing then (record { node = p.node; missing = p.missing - 1 } ∷ k, out) else r
 
+-- takes one more node, which has so many parts: with none it is done at once, else it waits for them
 abbrev pub turn_at : {T : Type 0} → ℕ → Node T → List (Pending T) → List (Node T) → List (Pending T) × List (Node T)
 turn_at zero x k out = part_done k (out ++ x ∷ [])
 turn_at (suc n) x k out = (record { node = x; missing = suc n } ∷ k, out)

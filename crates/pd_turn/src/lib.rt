@@ -1,4 +1,4 @@
-//! Nodes behind their parts are put before them.
+//! Nodes after their parts are put before them.
 #![tactic(auto)]
 
 ghost use Rattle.std.specs.Prelude.{◌≡◌, reverse, OnOk, IfOk};
@@ -40,7 +40,7 @@ fn part_done<T: Drop>(
     Ok(())
 }
 
-/// The nodes of some trees before their parts, from the nodes behind their parts.
+/// The nodes of some trees before their parts, from the nodes after their parts.
 /// Each node is moved once, and nothing recurses.
 pub fn before<T: Drop>(alloc: Global, nodes: Vec<Node<T>>) -> Result<Vec<Node<T>>, AllocError>
     ensures { IfOk result (λ out. (ts : Roses T) → nodes.items ≡ posts ts → out.items ≡ pres ts) }
@@ -66,7 +66,7 @@ mod tests {
     use super::*;
     use std::test::Fail;
 
-    /// The trees a(b(c), d) and e: c b d a e behind their parts, a b c d e before them.
+    /// The trees a(b(c), d) and e: c b d a e after their parts, a b c d e before them.
     #[test]
     fn two_trees(rt: HostRuntime) -> Result<(), Fail> {
         let mut nodes = Vec::new(rt.alloc());

@@ -1,4 +1,4 @@
--- When an operator may be asked, and how its answer follows from the table.
+-- Definition: when an operator may be asked, and how its answer follows from the table.
 use Rattle.std.specs.Prelude.{◌≡◌, ℕ, ◌<◌, List, length, Result, Ok, Err}
 use Rattle.pd_values.specs.declared.value.Value.{Value}
 use Rattle.pd_values.specs.declared.value.Value.TheVariants.{Number, Bool as Truth, Text as Chars, Null, Func}

@@ -1,4 +1,4 @@
--- The operator tables: what each operator gives for each pair of kinds of values, a value or a fault.
+-- Definition: the operator tables: what each operator gives for each pair of kinds of values, a value or a fault.
 use Rattle.std.specs.Prelude.{ℕ, zero, ◌%◌, ◌^◌, ℤ, pos, negsuc, ◌+ℤ◌, ◌-ℤ◌, ◌*ℤ◌, neg_ℤ, unsigned_abs, int_lt, int_le, int_div, Bool, true, false, if◌then◌else◌, nat_lt, nat_le, ◌==◌, List, [], ◌++◌, length, slice_index_or, Result, Ok, Err, codes, bytes_eq}
 use Rattle.std.specs.Bool.{beq}
 use Rattle.std.specs.Ordering.{int_eq}
@@ -10,6 +10,7 @@ use Rattle.pd_values.specs.declared.value.Fault.TheVariants.{Overflow, DivZero, 
 use Rattle.pd_values.specs.declared.value.Cmp.{Cmp}
 use Rattle.pd_values.specs.declared.value.Cmp.TheVariants.{Less, LessEq, Greater, GreaterEq}
 
+-- what an operator gives
 abbrev pub ValueOrFault : Type 0
 ValueOrFault = Result Value Fault
 
@@ -46,17 +47,20 @@ add names (Chars t) b = joined (t ++ show names b)
 add names a (Chars t) = joined (show names a ++ t)
 add names _ _ = Err WrongKind
 
+-- the difference of two numbers
 abbrev pub sub : Value → Value → ValueOrFault
 sub = on_numbers (λ x y. number (x -ℤ y))
 
+-- the product of two numbers
 abbrev pub mul : Value → Value → ValueOrFault
 mul = on_numbers (λ x y. number (x *ℤ y))
 
--- rounded toward zero
+-- the quotient of two whole numbers, rounded toward zero; by 0 it is a fault
 abbrev pub quotient : ℤ → ℤ → ValueOrFault
 quotient x (pos zero) = Err DivZero
 quotient x y = number (int_div x y)
 
+-- the quotient of two numbers, rounded toward zero
 abbrev pub div : Value → Value → ValueOrFault
 div = on_numbers quotient
 
@@ -67,6 +71,7 @@ ordered LessEq x y = int_le x y
 ordered Greater x y = int_lt y x
 ordered GreaterEq x y = int_le y x
 
+-- whether two numbers stand in this order
 abbrev pub compare : Cmp → Value → Value → Result Bool Fault
 compare op (Number x) (Number y) = Ok (ordered op x y)
 compare op _ _ = Err WrongKind
@@ -80,11 +85,12 @@ equal Null Null = true
 equal (Func i) (Func j) = i == j
 equal _ _ = false
 
--- a sign before a number: `-` gives 0 minus the number
+-- a number with the sign `+` before it: the number itself
 abbrev pub plus : Value → ValueOrFault
 plus (Number x) = Ok (Number x)
 plus _ = Err WrongKind
 
+-- 0 minus a number
 abbrev pub minus : Value → ValueOrFault
 minus (Number x) = number (neg_ℤ x)
 minus _ = Err WrongKind

@@ -1,4 +1,4 @@
-//! A list of the host.
+//! A list whose contract is the list of its items.
 ghost use Rattle.std.specs.Prelude.{◌≡◌, ◌<◌, [], ◌∷◌, ◌++◌, length, IsTrue, IsFalse, OnOk, option_copied, slice_get, slice_set};
 
 use std::alloc::AllocError;
@@ -57,7 +57,7 @@ impl<T: Drop> Items<T> {
         }
     }
 
-    /// Puts a value at the end.
+    /// Puts a value at the end. Where memory runs out it answers `AllocError`.
     pub fn push(&mut self, value: T) -> Result<(), AllocError>
         ensures { OnOk result (self.new ≡ self.old ++ value ∷ []) }
     {

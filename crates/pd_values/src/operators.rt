@@ -10,7 +10,7 @@ use crate::value::{Cmp, Fault, Value};
 use std::alloc::{AllocError, Global};
 use std::borrow::CowStr;
 
-/// The most bytes that a text made by [`add`] has.
+/// The most bytes that a text made by [`add`] has: 2^16.
 const LONGEST_TEXT: usize = 65_536;
 
 /// The text that a value is printed as: digits with `-` before a negative number, `true` or `false`, the text

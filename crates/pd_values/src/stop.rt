@@ -1,10 +1,12 @@
 //! Why a call gives no result.
 use std::alloc::{AllocError, AllocFailed};
 
-/// A refusal with a cause, or want of memory.
+/// Why a call gives no result: it refuses what it was given, or memory ran out.
 #[derive(Drop)]
 pub enum Stop<R: Drop> {
+    /// What was given is refused, for this cause.
     Refused(R),
+    /// Memory ran out.
     Memory,
 }
 

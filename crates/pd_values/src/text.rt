@@ -1,4 +1,4 @@
-//! A text of the host.
+//! A text whose contract is the list of its bytes.
 ghost use Rattle.std.specs.Prelude.{◌≡◌, IfOk, string_bytes};
 
 use std::alloc::AllocError;
@@ -33,7 +33,7 @@ impl Text {
         self.chars.as_str()
     }
 
-    /// A second text with the same bytes.
+    /// A second text with the same bytes. Where memory runs out it answers `AllocError`.
     pub fn copy(&self) -> Result<Text, AllocError>
         ensures { IfOk result (λ t. t ≡ self.now) }
     {

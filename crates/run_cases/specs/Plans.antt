@@ -1,3 +1,4 @@
+-- For the program that runs the cases: no library's contract cites it.
 -- The plan of a case.
 use Rattle.std.specs.Prelude.{[], ◌∷◌, codes}
 use Rattle.pd_plan.specs.declared.plan.Language.{Language}

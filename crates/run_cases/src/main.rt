@@ -49,7 +49,8 @@ fn print_run(rt: &HostRuntime, ran: &Ran, told: &str) -> io::Result<()> {
     Ok(())
 }
 
-/// The item to run: the last function of the name `main`, or PL/0's main block, which is the first item behind `println`.
+/// The item to run: the last function of the name `main`, or PL/0's main block, which is the first item after
+/// `println`.
 fn entry_of(program: &Program, language: Language) -> u32 {
     if language == Language::Pl0 {
         return 1;

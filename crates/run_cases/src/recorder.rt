@@ -24,7 +24,7 @@ pub struct Recorder<'a> {
 }
 
 impl<'a> Recorder<'a> {
-    /// Nothing was told yet.
+    /// No event was told.
     pub fn new(alloc: Global, program: &'a Program, case: &'a Case) -> Recorder<'a>
         ensures { result.heard.events ≡ [] }
     {
