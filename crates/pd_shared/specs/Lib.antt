@@ -5,6 +5,7 @@ pub mod Sitting
 pub mod Took
 pub mod Steps
 pub mod Loading
+pub mod Costs
 pub mod First
 pub mod Held
 pub mod Merged

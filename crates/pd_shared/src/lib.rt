@@ -14,6 +14,7 @@ mod steps;
 mod tests;
 mod token;
 
+pub use close::Tally;
 pub use laws::steps_are_counted;
 pub use pd_board::{BindingTally, State};
 pub use seat::Seat;
