@@ -11,3 +11,4 @@ pub mod Held
 pub mod Merged
 pub mod Left
 pub mod Closed
+pub mod Matching

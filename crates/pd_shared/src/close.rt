@@ -51,8 +51,8 @@ impl SharedBoard {
         let last_was = Snapshot::of(&last);
         let SharedBoard {
             core,
-            table: _,
             row_words,
+            ..
         } = self;
         let Token {
             pass,

@@ -4,6 +4,7 @@
 mod close;
 mod journal;
 mod laws;
+mod matching;
 mod merge;
 mod replies;
 mod seat;
