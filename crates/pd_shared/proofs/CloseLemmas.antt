@@ -1,5 +1,5 @@
 -- What the last words and the lists of all seats say together, where the last seat has all shares of the seats.
-use Rattle.std.proofs.Common.{◌≡◌, ◌≢◌, ◌⊎◌, ℕ, zero, suc, ◌+◌, ◌*◌, ◌<◌, ◌≤◌, ◌^◌, List, [], ◌∷◌, ◌++◌, Bool, true, false, if◌then◌else◌, ◌==◌, ◌&&◌, Some, None, sym, refl, ap, ◌∙◌, subst, arith, inl, inr, ⊎_elim, eq-eqb, ne_eqb}
+use Rattle.std.proofs.Common.{◌≡◌, ◌≢◌, ◌⊎◌, ℕ, zero, suc, ◌+◌, ◌*◌, ◌<◌, ◌≤◌, ◌^◌, List, [], ◌∷◌, ◌++◌, length, Bool, true, false, if◌then◌else◌, ◌==◌, ◌&&◌, Some, None, sym, refl, ap, ◌∙◌, subst, arith, inl, inr, ⊎_elim, eq-eqb, ne_eqb}
 use Rattle.std.specs.Prelude.{nat_lt, slice_index, slice_index_or, count_by as how_many}
 use Rattle.std.specs.List.{All, filter_map, list_any}
 use Rattle.std.specs.Option.{ForSome}
@@ -13,14 +13,14 @@ use Rattle.pd_board.specs.declared.answers.Attach.TheVariants as attaches
 use Rattle.pd_board.specs.declared.answers.Sight.{Sight}
 use Rattle.pd_board.specs.declared.answers.State.TheVariants as states
 use Rattle.pd_board.specs.declared.answers.BindingTally.{BindingTally}
-use Rattle.pd_board.specs.declared.answers.Tally.{Tally}
 use Rattle.pd_board.specs.Answers.{has_attach, has_attachment, has_disposal, is_attach, is_attachment, is_disposal, disposal, toggle_count, TogglesUpTo}
 use Rattle.pd_board.specs.Kept.{numbers_of, disables_upto, enables_upto, IsMissed, FitsToggles}
 use Rattle.pd_board.specs.Tally.{state_by, no_tally}
 use Rattle.pd_core.specs.declared.view.View.{View}
 use Rattle.pd_core.specs.declared.view.Deeds.{Deeds}
 use Rattle.pd_core.specs.declared.view.Talk.{Talk}
-use Rattle.pd_core.specs.Layout.{Layout, bindings, binding_word, session_word, front}
+use Rattle.pd_core.specs.Layout.{Layout, bindings, binding_word, session_word, front, width}
+use Rattle.pd_core.proofs.Places.{front_is}
 use Rattle.pd_core.specs.Words.{attached, disposed, off, sum_in}
 use Rattle.pd_core.specs.Counts.{total, same, pair_is, once_below, one_if}
 use Rattle.pd_core.specs.Talks.{numbers, silent}
@@ -35,7 +35,8 @@ use Rattle.pd_core.proofs.Whole.{whole_total}
 use Rattle.pd_shared.specs.declared.token.Token.{Token}
 use Rattle.pd_shared.specs.declared.sights.Sights.{Sights}
 use Rattle.pd_shared.specs.Journal.{Entries}
-use Rattle.pd_shared.specs.Tied.{AreDeeds, IsKnown}
+use Rattle.pd_shared.specs.Book.{book_of}
+use Rattle.pd_shared.specs.Tied.{AreDeeds, IsKnown, IsTied}
 use Rattle.pd_shared.specs.Held.{IsHeld}
 use Rattle.pd_shared.specs.Left.{DidLeave}
 use Rattle.pd_shared.specs.Sitting.{number_for}
@@ -332,26 +333,38 @@ not_unattached false e = cc
 some_state : (gone : Bool) (a : ℕ) → a ≡ 1 → state_by gone (a == 1) ≡ states.Unattached → ⊥
 some_state gone a e none = not_unattached gone (sym (ap (state_by gone) (eq-eqb a 1 e)) ∙ none)
 
-pub closed : (p : Layout) (last : Token) (ws : List ℕ) (t : Tally) → IsLast p last.pass.view ws → AreDeeds last.pass.view.deeds last.journal → IsKnown p last.pass.view last.known.items → IsHeld p last.pass.view last.seats last.counts.items
-    → AreTallies ws (front p) last.counts.items (bindings p) t.bindings → AreNumbers ws (front p + bindings p) p.sessions t.answers → IsClosed p last t
-closed p last ws t end deeds known_is held tallies answers =
+pub closed : (p : Layout) (last : Token) (ws : List ℕ) (tallies : List BindingTally) (counts : List ℕ) → IsLast p last.pass.view ws → AreDeeds last.pass.view.deeds last.journal → IsKnown p last.pass.view last.known.items → IsHeld p last.pass.view last.seats last.counts.items
+    → AreTallies ws (front p) last.counts.items (bindings p) tallies → AreNumbers ws (front p + bindings p) p.sessions counts → IsClosed p last tallies counts
+closed p last ws tallies counts end deeds known_is held are answers =
     let all : 2 ^ 32 ≤ last.pass.view.seat_share → last.pass.view.seat_share ≡ 2 ^ 32 = (λ whole. omega (arith, total-at (λ (u : View). u.seat_share) end.0 end.2.0 last.pass.view end.2.1, end.1.counted.seats)) in
     record {
-      bindings_are = tallies.length_is;
+      bindings_are = are.length_is;
       sessions_are = answers.length_is;
       words = (
         ws,
         record {
           last_is = end;
-          states = λ b lt. state_of (binding_word p ws b) (slice_index last.counts.items b) (slice_index_or t.bindings b no_tally) (tallies.each b lt);
-          sums = λ b lt. sum_of (binding_word p ws b) (slice_index last.counts.items b) (slice_index_or t.bindings b no_tally) (tallies.each b lt);
+          states = λ b lt. state_of (binding_word p ws b) (slice_index last.counts.items b) (slice_index_or tallies b no_tally) (are.each b lt);
+          sums = λ b lt. sum_of (binding_word p ws b) (slice_index last.counts.items b) (slice_index_or tallies b no_tally) (are.each b lt);
           answers = answers.each;
         },
       );
-      known_gone = λ b lt e. state_of (binding_word p ws b) (slice_index last.counts.items b) (slice_index_or t.bindings b no_tally) (tallies.each b lt) ∙ gone_state (disposed (binding_word p ws b)) (attached (binding_word p ws b) == 1) (gone_there p ws end.0 end.2.0 b last.pass.view last.known.items end.1 end.2.1 lt known_is e);
+      known_gone = λ b lt e. state_of (binding_word p ws b) (slice_index last.counts.items b) (slice_index_or tallies b no_tally) (are.each b lt) ∙ gone_state (disposed (binding_word p ws b)) (attached (binding_word p ws b) == 1) (gone_there p ws end.0 end.2.0 b last.pass.view last.known.items end.1 end.2.1 lt known_is e);
       known_attached = λ b lt e none. some_state (disposed (binding_word p ws b) == 1) (attached (binding_word p ws b)) (attached_there p ws end.0 end.2.0 b last.pass.view last.known.items end.1 end.2.1 lt known_is e)
-          (sym (state_of (binding_word p ws b) (slice_index last.counts.items b) (slice_index_or t.bindings b no_tally) (tallies.each b lt)) ∙ none);
-      outcomes = λ whole left did b lt. let share = all whole in subst (IsOutcomeOfAll b (all_sights last.journal left) (all_replies last.journal left)) (sym (tallies.each b lt))
+          (sym (state_of (binding_word p ws b) (slice_index last.counts.items b) (slice_index_or tallies b no_tally) (are.each b lt)) ∙ none);
+      outcomes = λ whole left did b lt. let share = all whole in subst (IsOutcomeOfAll b (all_sights last.journal left) (all_replies last.journal left)) (sym (are.each b lt))
           (outcome_of_all p ws end.0 end.2.0 last.pass.view end.1 end.2.1 share last.journal left deeds did b lt last.seats last.counts.items held);
       numbers = λ whole s lt. let share = all whole in subst (λ (n : ℕ). OnceBelow n (filter_map (number_for s) (last.pass.view.talk.numbers ++ last.pass.view.talk.handed))) (sym (answers.each s lt)) (answers_once p ws end.0 end.2.0 last.pass.view end.1 end.2.1 share s lt);
     }
+
+-- the same, by the lists and lengths that were read
+pub closed_by : (p : Layout) (last : Token) (ws words words_2 founds : List ℕ) (nodes nodes_2 rows count sessions : ℕ) (made tallies : List BindingTally) (read counts : List ℕ)
+    → IsLast p last.pass.view ws → IsTied p last.pass.view (book_of last) → IsHeld p last.pass.view last.seats last.counts.items → words ≡ ws → words_2 ≡ ws → founds ≡ last.counts.items
+    → nodes ≡ p.nodes → nodes_2 ≡ p.nodes → rows ≡ width p → count ≡ bindings p → sessions ≡ p.sessions → tallies ≡ made → counts ≡ read
+    → AreTallies words (nodes + nodes_2 * rows) founds (length founds) made → AreNumbers words_2 (nodes + nodes_2 * rows + count) sessions read → IsClosed p last tallies counts
+closed_by p last ws words words_2 founds nodes nodes_2 rows count sessions made tallies read counts end tied held words_are words_2_are founds_are nodes_are nodes_2_are rows_are count_is sessions_are tallies_are counts_are of_bindings of_sessions =
+    let first : nodes + nodes_2 * rows ≡ front p = (λ i. nodes_are i + nodes_2_are i * rows_are i) ∙ sym (front_is p) in
+    let long : length founds ≡ bindings p = ap length founds_are ∙ held.counts_are in
+    closed p last ws tallies counts end tied.deeds tied.known_is held
+    (subst (λ (x : List ℕ × ℕ × List ℕ × ℕ × List BindingTally). AreTallies x.0 x.1 x.2 x.3 x.4) (λ i. (words_are i, first i, founds_are i, long i, sym tallies_are i)) of_bindings)
+    (subst (λ (x : List ℕ × ℕ × ℕ × ℕ × List ℕ). AreNumbers x.0 (x.1 + x.2) x.3 x.4) (λ i. (words_2_are i, first i, count_is i, sessions_are i, sym counts_are i)) of_sessions)

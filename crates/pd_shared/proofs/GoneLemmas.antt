@@ -1,9 +1,9 @@
 -- What a load of a node's words tells of its bindings.
-use Rattle.std.proofs.Common.{◌≡◌, ◌≢◌, ◌⊎◌, ℕ, zero, suc, ◌+◌, ◌*◌, ◌/◌, ◌%◌, ◌<◌, ◌≤◌, List, [], ◌∷◌, ◌++◌, length, length-set, length-append, slice_set, Bool, true, false, if◌then◌else◌, ◌==◌, ◌&&◌, ◌||◌, not, ltb, sym, refl, ap, ◌∙◌, subst, arith, inl, inr, ⊎_elim, eq-eqb, ne_eqb, get_or, get_or-set_other, append-nil, Ok, Err}
-use Rattle.std.specs.Prelude.{slice_index}
-use Rattle.std.specs.List.Sorted.{IsBinarySearchResult}
-use Rattle.std.specs.Ordering.{nat_cmp}
-use Rattle.std.proofs.lemmas.List.Sorted.{searched}
+use Rattle.std.proofs.Common.{◌≡◌, ◌≢◌, ◌⊎◌, ℕ, zero, suc, ◌+◌, ◌-◌, ◌*◌, ◌/◌, ◌%◌, ◌^◌, ◌<◌, ◌≤◌, List, [], ◌∷◌, ◌++◌, length, length-set, length-append, slice_set, Bool, true, false, if◌then◌else◌, ◌==◌, ◌&&◌, ◌||◌, not, ltb, sym, refl, ap, ◌∙◌, subst, arith, inl, inr, ⊎_elim, eq-eqb, ne_eqb, get_or, get_or-set_other, append-nil}
+use Rattle.std.specs.Prelude.{slice_index, min, bit_and}
+use Rattle.std.specs.Int.{bit_at, bit_not, w64}
+use Rattle.std.proofs.lemmas.Nat.Bits.{bit_at_and, bit_at_not}
+use Rattle.pd_board.specs.Bits.{IsLowestFrom}
 use Rattle.std.proofs.lemmas.Grind.{get_or-set_at}
 use Rattle.std.proofs.lemmas.Bool.Decides.{nat_tests}
 use Rattle.std.specs.List.{list_any}
@@ -14,7 +14,7 @@ use Rattle.pd_board.specs.declared.answers.Known.TheVariants as knowns
 use Rattle.pd_board.specs.Answers.{known_after_load}
 use Rattle.pd_board.specs.Standing.{in_row}
 use Rattle.pd_core.specs.declared.view.View.{View}
-use Rattle.pd_core.specs.Layout.{Layout, Rising, bindings, row, width, Matches, row_at, binding_word}
+use Rattle.pd_core.specs.Layout.{Layout, bindings, row, width, Matches, row_at, binding_word}
 use Rattle.pd_core.specs.Words.{attached, disposed, bit_of, mark}
 use Rattle.pd_core.specs.Counts.{times, same, total, only_if}
 use Rattle.pd_core.specs.Views.{Known as Found_as, fresh, found_attached, found_disposed, known, gather, is_missing, is_found_attached}
@@ -84,6 +84,86 @@ done_row table n w r high was now end d b = by_eq (b / 64) r
         far : {m : ℕ} (k : ℕ) → k / 64 ≢ r → 64 * r ≤ k → m ≡ 64 * (r + 1) → m ≤ k
         far k nk low is = by_lt k (64 * (r + 1)) (λ (h : k < 64 * (r + 1)). absurd (nk (omega arith))) (λ (h : 64 * (r + 1) ≤ k). omega arith)
 
+-- none of those from high on and below next is changed by the load
+pub done_skip : (table : MatchTable) (n w low high next : ℕ) (was now : List Known) → high ≤ next → IsDone table n w low high was now → ((b : ℕ) → high ≤ b → b < next → after_row table n w b (known_at was b) ≡ known_at was b) → IsDone table n w low next was now
+done_skip table n w low high next was now le d same = record {
+  len = d.len;
+  done = λ b from below. by_lt b high (λ (h : b < high). d.done b from h) (λ (h : high ≤ b). d.above b h ∙ sym (same b h below));
+  below = d.below;
+  above = λ b h. d.above b (omega arith);
+}
+
+-- ---- the bindings that match and have no bit
+
+missing_bit : (m w i : ℕ) → w < 2 ^ 64 → i < 64 → bit_at (bit_and m (bit_not w64 w)) i ≡ min (bit_at m i) (1 - bit_at w i)
+missing_bit m w i fits lt = bit_at_and m (bit_not w64 w) i ∙ ap (min (bit_at m i)) (bit_at_not w64 w i fits lt)
+
+by_bits : (m w i : ℕ) → w < 2 ^ 64 → i < 64 → {A : Type 0} → (bit_of m i ≡ 0 → A) → (bit_of w i ≡ 1 → A) → (bit_of (bit_and m (bit_not w64 w)) i ≡ 1 → bit_of m i ≡ 1 → bit_of w i ≡ 0 → A) → A
+unfolding bit_of
+by_bits m w i fits lt none there missing = ⊎_elim none
+    (λ (matching : bit_at m i ≡ 1). ⊎_elim
+    (λ (clear : bit_at w i ≡ 0). missing (missing_bit m w i fits lt ∙ (ap (λ (k : ℕ). min k (1 - bit_at w i)) matching ∙ ap (λ (k : ℕ). min 1 (1 - k)) clear)) matching clear)
+    there (zero_or_one (bit_at w i) (bit_fits w i)))
+    (zero_or_one (bit_at m i) (bit_fits m i))
+
+stays_without : (k : Known) (matching has_it : Bool) → matching ≡ false → known_after_load matching has_it k ≡ k
+stays_without k false t e = refl
+stays_without k true t e = absurd (cc)
+
+stays_with : (k : Known) (matching has_it : Bool) → has_it ≡ true → known_after_load matching has_it k ≡ k
+stays_with k false t e = refl
+stays_with k true true e = refl
+stays_with k true false e = absurd (cc)
+
+-- the word m says for the bindings of row word r which of them match the node
+abbrev pub Tells : MatchTable → ℕ → ℕ → ℕ → Type 0
+Tells table n r m = (b : ℕ) → b / 64 ≡ r → (bit_of m (b % 64) == 1) ≡ in_row table b n
+
+abbrev pub missing_of : ℕ → ℕ → ℕ
+missing_of m w = bit_and m (bit_not w64 w)
+
+kept_there : (table : MatchTable) (n r m w b : ℕ) (k : Known) → w < 2 ^ 64 → Tells table n r m → b / 64 ≡ r → bit_of (missing_of m w) (b % 64) ≡ 0 → after_row table n w b k ≡ k
+kept_there table n r m w b k fits tells here none = by_bits m w (b % 64) fits (omega arith)
+    (λ (z : bit_of m (b % 64) ≡ 0). stays_without k (in_row table b n) (bit_of w (b % 64) == 1) (sym (tells b here) ∙ ne_eqb (bit_of m (b % 64)) 1 (λ e. omega arith)))
+    (λ (o : bit_of w (b % 64) ≡ 1). stays_with k (in_row table b n) (bit_of w (b % 64) == 1) (eq-eqb (bit_of w (b % 64)) 1 o))
+    (λ (one : bit_of (missing_of m w) (b % 64) ≡ 1) _ _. absurd (omega arith))
+
+pub matched_there : (table : MatchTable) (n r m w b : ℕ) → w < 2 ^ 64 → Tells table n r m → b / 64 ≡ r → bit_of (missing_of m w) (b % 64) ≡ 1 → (in_row table b n ≡ true) × ((bit_of w (b % 64) == 1) ≡ false)
+unfolding bit_of
+matched_there table n r m w b fits tells here one = by_bits m w (b % 64) fits (omega arith)
+    (λ (z : bit_at m (b % 64) ≡ 0). absurd (let is = missing_bit m w (b % 64) fits (omega arith) in omega arith))
+    (λ (o : bit_at w (b % 64) ≡ 1). absurd (let is = missing_bit m w (b % 64) fits (omega arith) in omega arith))
+    (λ _ (on : bit_at m (b % 64) ≡ 1) (clear : bit_at w (b % 64) ≡ 0). (sym (tells b here) ∙ eq-eqb (bit_at m (b % 64)) 1 on, ne_eqb (bit_at w (b % 64)) 1 (λ e. omega arith)))
+
+rows_past : (rows : List (List ℕ)) (b : ℕ) → length rows ≤ b → get_or rows b [] ≡ []
+rows_past [] b h = refl
+rows_past (x ∷ xs) zero h = absurd (omega arith)
+rows_past (x ∷ xs) (suc b) h = rows_past xs b (omega arith)
+
+-- a binding that matches a node is one of the table
+pub row_below : (table : MatchTable) (b n : ℕ) → in_row table b n ≡ true → b < length table.rows
+row_below table b n e = by_lt b (length table.rows) (λ (h : b < length table.rows). h)
+    (λ (h : length table.rows ≤ b). absurd (let q : true ≡ false = sym e ∙ ap (list_any (λ m. m == n)) (rows_past table.rows b h) in cc))
+
+pub gone_step : (table : MatchTable) (n r m w low place high : ℕ) (was now : List Known) (x : Known) → w < 2 ^ 64 → Tells table n r m → IsLowestFrom (missing_of m w) low place → 64 * r + place < length now → high ≡ 64 * r + place + 1
+    → IsDone table n w (64 * r) (64 * r + low) was now → x ≡ known_after_load true false (known_at now (64 * r + place)) → IsDone table n w (64 * r) high was (slice_set now (64 * r + place) x)
+unfolding bit_of
+gone_step table n r m w low place high was now x fits tells lowest within is d changed =
+    let from : low ≤ place = lowest.from in
+    let below : place < 64 = lowest.within in
+    let there = matched_there table n r m w (64 * r + place) fits tells (omega arith) (ap (bit_at (missing_of m w)) (let e : (64 * r + place) % 64 ≡ place = omega arith in e) ∙ lowest.set) in
+    let skipped = done_skip table n w (64 * r) (64 * r + low) (64 * r + place) was now (omega arith) d
+    (λ b h k. kept_there table n r m w b (known_at was b) fits tells (omega arith) (lowest.clear (b % 64) (omega arith) (omega arith))) in
+    subst (λ (h : ℕ). IsDone table n w (64 * r) h was (slice_set now (64 * r + place) x)) (sym is)
+    (done_next table n w (64 * r) (64 * r + place) was now x (omega arith) within skipped
+    (changed ∙ sym (ap (λ (t : Bool). known_after_load t (bit_of w ((64 * r + place) % 64) == 1) (known_at now (64 * r + place))) there.0 ∙ ap (λ (t : Bool). known_after_load true t (known_at now (64 * r + place))) there.1)))
+
+pub gone_end : (table : MatchTable) (n r m w low : ℕ) (was now : List Known) → w < 2 ^ 64 → Tells table n r m → low ≤ 64 → ((i : ℕ) → low ≤ i → bit_of (missing_of m w) i ≡ 0) → IsDone table n w (64 * r) (64 * r + low) was now → IsRowKnown table n r w was now
+gone_end table n r m w low was now fits tells few none d =
+    done_row table n w r (64 * (r + 1)) was now (inl refl)
+    (done_skip table n w (64 * r) (64 * r + low) (64 * (r + 1)) was now (omega arith) d
+    (λ b h k. kept_there table n r m w b (known_at was b) fits tells (omega arith) (none (b % 64) (omega arith))))
+
 -- ---- which bindings match
 
 row_times : (n : ℕ) (xs : List ℕ) → ltb 0 (times n xs) ≡ list_any (λ m. m == n) xs
@@ -113,21 +193,6 @@ place_row n (suc k) (x ∷ xs) h e = or_true (x == n) (list_any (λ m. m == n) x
     or_true : (s t : Bool) → t ≡ true → (s || t) ≡ true
     or_true true t q = refl
     or_true false t q = q
-
-pub not_in_row : (n : ℕ) (xs : List ℕ) → ((k : ℕ) → k < length xs → slice_index xs k ≡ n → ⊥) → list_any (λ m. m == n) xs ≡ false
-not_in_row n xs h = ⊎_elim (λ (e : list_any (λ m. m == n) xs ≡ true). let r = row_place n xs e in absurd (h r.0 r.1 r.2)) (λ (e : list_any (λ m. m == n) xs ≡ false). e) (yes_or_no (list_any (λ m. m == n) xs))
-
--- a binary search in a row whose nodes rise
-rises : (xs : List ℕ) → Rising xs → (i j : ℕ) → i ≤ j → j < length xs → slice_index xs i ≤ slice_index xs j
-rises xs r i j le lt = by_lt i j (λ (h : i < j). let here = r i j h lt in omega arith) (λ (h : j ≤ i). let e : i ≡ j = omega arith in subst (λ (k : ℕ). slice_index xs i ≤ slice_index xs k) e (omega arith))
-
-pub found_in : (xs : List ℕ) (n i : ℕ) → Rising xs → IsBinarySearchResult (λ y. nat_cmp y n) xs (Ok i) → list_any (λ m. m == n) xs ≡ true
-found_in xs n i rising ends = let at = searched xs n (Ok i) ends (rises xs rising) in place_row n i xs at.0 at.1
-
-pub absent_in : (xs : List ℕ) (n i : ℕ) → Rising xs → IsBinarySearchResult (λ y. nat_cmp y n) xs (Err i) → list_any (λ m. m == n) xs ≡ false
-absent_in xs n i rising ends =
-    let at = searched xs n (Err i) ends (rises xs rising) in
-    not_in_row n xs (λ k lt e. by_lt k i (λ (h : k < i). let here = at.1 k h in omega arith) (λ (h : i ≤ k). let here = at.2 k h lt in omega arith))
 
 module _ (p : Layout) (table : MatchTable) (same_rows : table.rows ≡ p.rows) where
   in_row_is : (b n : ℕ) → in_row table b n ≡ list_any (λ m. m == n) (row p b)

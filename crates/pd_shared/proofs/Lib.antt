@@ -14,3 +14,4 @@ pub mod LeftLemmas
 pub mod AllLemmas
 pub mod CloseLemmas
 pub mod StepLemmas
+pub mod CostLemmas

@@ -7,7 +7,7 @@ use Rattle.pd_core.specs.Words.{bit_of}
 use Rattle.pd_core.specs.Views.{fresh, found_attached}
 use Rattle.pd_core.specs.Kinds.{Kind, effect, load_node, load_binding, draw, clear_bit, set_bit, set_attached, set_disposed, count_answer, load_answers, count_end, load_ends, load_row, set_summary, set_off, clear_off}
 use Rattle.pd_shared.specs.Took.{Took, drew, looked, both}
-use Rattle.pd_shared.specs.Steps.{MarkedTo, LoadedIf, LoadedTo, rows_below, CountsOne, CountsChain, CountsAttach, CountsDraw, EventCall, draws, sweeps, passes, disposes, DoesCalls, most_steps, EventCosts}
+use Rattle.pd_shared.specs.Steps.{MarkedTo, LoadedIf, LoadedTo, rows_below, CountsOne, CountsChain, CountsAttach, CountsDraw}
 
 effect_steps : (p : Layout) (k : Kind) (w : ℕ) (v : View) → (effect p k w v).steps ≡ v.steps
 effect_steps p (load_node n) w v = refl
@@ -57,13 +57,3 @@ counts_draw p event b v next drawn later (both u w between new first on took d l
     let one = took_one p (load_binding event b) v u between first in
     let two = took_one p (draw event b) between w next took in
     (omega arith, omega arith, λ is. absurd (let q : fresh ≡ found_attached = sym new ∙ is in cc))
-
-calls_cost : (p : Layout) (xs : List EventCall) (v next : View) → DoesCalls p xs v next → next.steps ≤ v.steps + most_steps xs
-calls_cost p [] v next t = let e = ap (λ (y : View). y.steps) t in omega arith
-calls_cost p (draws event b ∷ xs) v next t = let here = (counts_draw p event b v t.0 t.1.0 t.1.1 t.1.2).1 in let behind = calls_cost p xs t.0 next t.2 in omega arith
-calls_cost p (sweeps n b ∷ xs) v next t = let here = counts_one p (clear_bit n b) v t.0 t.1 in let behind = calls_cost p xs t.0 next t.2 in omega arith
-calls_cost p (passes ∷ xs) v next t = let here = ap (λ (y : View). y.steps) t.1 in let behind = calls_cost p xs t.0 next t.2 in omega arith
-calls_cost p (disposes b ∷ xs) v next t = let here = counts_one p (set_disposed b) v t.0 t.1 in let behind = calls_cost p xs t.0 next t.2 in omega arith
-
-pub event_costs : EventCosts
-event_costs p n rows xs v m next load calls = let first = counts_chain p n rows v m load in let behind = calls_cost p xs m next calls in omega arith

@@ -11,7 +11,6 @@ use Rattle.pd_board.specs.declared.answers.Sight.{Sight}
 use Rattle.pd_board.specs.declared.answers.Known.TheVariants as knowns
 use Rattle.pd_board.specs.declared.answers.State.TheVariants as states
 use Rattle.pd_board.specs.declared.answers.BindingTally.{BindingTally}
-use Rattle.pd_board.specs.declared.answers.Tally.{Tally}
 use Rattle.pd_board.specs.Answers.{has_attach, has_attachment, has_disposal, is_disposal, disposal, TogglesUpTo}
 use Rattle.pd_board.specs.Kept.{numbers_of, IsMissed, FitsToggles}
 use Rattle.pd_board.specs.Tally.{state_by, no_tally}
@@ -87,26 +86,27 @@ all_sights e left = all_of (λ d. d.sights) e.sights left
 abbrev pub all_replies : Entries → List Sights → List ActResult
 all_replies e left = all_of (λ d. d.replies) e.replies left
 
--- the tally is that of last words of which the rule holds with the last view
-pub record IsOfWords (p : Layout) (last : Token) (t : Tally) (words : List ℕ) : Type 0 where
+-- the tallies and the numbers of answers are those of last words of which the rule holds with the last view
+pub record IsOfWords (p : Layout) (last : Token) (tallies : List BindingTally) (counts : List ℕ) (words : List ℕ) : Type 0 where
   pub last_is : IsLast p last.pass.view words
-  pub states : (b : ℕ) → b < bindings p → (slice_index_or t.bindings b no_tally).state ≡ state_by (disposed (binding_word p words b) == 1) (attached (binding_word p words b) == 1)
-  pub sums : (b : ℕ) → b < bindings p → disposed (binding_word p words b) ≡ 0 → (slice_index_or t.bindings b no_tally).count ≡ sum_in (binding_word p words b)
-  pub answers : (s : ℕ) → s < p.sessions → slice_index t.answers s ≡ session_word p words s
+  pub states : (b : ℕ) → b < bindings p → (slice_index_or tallies b no_tally).state ≡ state_by (disposed (binding_word p words b) == 1) (attached (binding_word p words b) == 1)
+  pub sums : (b : ℕ) → b < bindings p → disposed (binding_word p words b) ≡ 0 → (slice_index_or tallies b no_tally).count ≡ sum_in (binding_word p words b)
+  pub answers : (s : ℕ) → s < p.sessions → slice_index counts s ≡ session_word p words s
 
 -- the token has all shares of the seats
 abbrev pub IsWhole : Token → Type 0
 IsWhole t = 2 ^ 32 ≤ t.pass.view.seat_share
 
--- Where the last token has all shares of the seats, the tally tells what its seat and all that this took in did
-pub record IsClosed (p : Layout) (last : Token) (t : Tally) : Type 0 where
-  pub bindings_are : length t.bindings ≡ bindings p
-  pub sessions_are : length t.answers ≡ p.sessions
-  pub words : (ws : List ℕ) × IsOfWords p last t ws
+-- The tallies of the bindings, and for each session its number of answers. Where the last token has all shares of the seats, they tell what
+-- its seat and all that this took in did
+pub record IsClosed (p : Layout) (last : Token) (tallies : List BindingTally) (counts : List ℕ) : Type 0 where
+  pub bindings_are : length tallies ≡ bindings p
+  pub sessions_are : length counts ≡ p.sessions
+  pub words : (ws : List ℕ) × IsOfWords p last tallies counts ws
   -- what the last seat knows is so
-  pub known_gone : (b : ℕ) → b < bindings p → known_at last.known.items b ≡ knowns.Disposed → (slice_index_or t.bindings b no_tally).state ≡ states.Disposed
-  pub known_attached : (b : ℕ) → b < bindings p → known_at last.known.items b ≡ knowns.Attached → (slice_index_or t.bindings b no_tally).state ≡ states.Unattached → ⊥
+  pub known_gone : (b : ℕ) → b < bindings p → known_at last.known.items b ≡ knowns.Disposed → (slice_index_or tallies b no_tally).state ≡ states.Disposed
+  pub known_attached : (b : ℕ) → b < bindings p → known_at last.known.items b ≡ knowns.Attached → (slice_index_or tallies b no_tally).state ≡ states.Unattached → ⊥
   pub outcomes : IsWhole last → (left : List Sights) → DidLeave left last.pass.view.taken → (b : ℕ) → b < bindings p
-      → IsOutcomeOfAll b (all_sights last.journal left) (all_replies last.journal left) (slice_index_or t.bindings b no_tally)
+      → IsOutcomeOfAll b (all_sights last.journal left) (all_replies last.journal left) (slice_index_or tallies b no_tally)
   -- the answer numbers of a session are those below its number of answers, each once
-  pub numbers : IsWhole last → (s : ℕ) → s < p.sessions → OnceBelow (slice_index t.answers s) (filter_map (number_for s) (last.pass.view.talk.numbers ++ last.pass.view.talk.handed))
+  pub numbers : IsWhole last → (s : ℕ) → s < p.sessions → OnceBelow (slice_index counts s) (filter_map (number_for s) (last.pass.view.talk.numbers ++ last.pass.view.talk.handed))

@@ -8,8 +8,10 @@ pub mod Sitting
 pub mod Took
 pub mod Steps
 pub mod Loading
+pub mod Costs
 pub mod First
 pub mod Held
 pub mod Merged
 pub mod Left
 pub mod Closed
+pub mod Matching

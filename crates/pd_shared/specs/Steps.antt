@@ -72,34 +72,3 @@ CountsAttach = (p : Layout) (b : ℕ) (v next : View) → AttachSteps p b v next
 abbrev pub CountsDraw : Type 0
 CountsDraw = (p : Layout) (event b : ℕ) (v next : View) (drawn : Drawn) (later : Known) → DrawSteps p event b v next drawn later
     → (v.steps + 1 ≤ next.steps) × (next.steps ≤ v.steps + 2) × (known v b ≡ found_attached → next.steps ≡ v.steps + 1)
-
--- ---- the calls that serve one event
-
--- after the load of a node each of its bindings is drawn, swept or passed, and a one-shot that was hit is disposed
-pub data EventCall : Type 0 where
-  draws : ℕ → ℕ → EventCall
-  sweeps : ℕ → ℕ → EventCall
-  passes : EventCall
-  disposes : ℕ → EventCall
-
-abbrev pub DoesCall : Layout → EventCall → View → View → Type 0
-DoesCall p (draws event b) v next = (drawn : Drawn) × (later : Known) × DrawSteps p event b v next drawn later
-DoesCall p (sweeps n b) v next = TookOne p (clear_bit n b) v next
-DoesCall p passes v next = next ≡ v
-DoesCall p (disposes b) v next = TookOne p (set_disposed b) v next
-
-abbrev pub DoesCalls : Layout → List EventCall → View → View → Type 0
-DoesCalls p [] v next = next ≡ v
-DoesCalls p (x ∷ xs) v next = (m : View) × DoesCall p x v m × DoesCalls p xs m next
-
--- at most two steps for a bit, and one for a disposal
-abbrev pub most_steps : List EventCall → ℕ
-most_steps [] = 0
-most_steps (draws event b ∷ xs) = 2 + most_steps xs
-most_steps (sweeps n b ∷ xs) = 1 + most_steps xs
-most_steps (passes ∷ xs) = most_steps xs
-most_steps (disposes b ∷ xs) = 1 + most_steps xs
-
--- so an event costs one load, one more for each row of its summary, and at most those
-abbrev pub EventCosts : Type 0
-EventCosts = (p : Layout) (n rows : ℕ) (xs : List EventCall) (v m next : View) → ChainSteps p n rows v m → DoesCalls p xs m next → next.steps ≤ v.steps + (1 + rows + most_steps xs)

@@ -5,22 +5,54 @@ ghost use Rattle.pd_shared.specs.Closed.{tally_by, AreTallies, AreNumbers, IsClo
 
 use crate::shared::SharedBoard;
 use crate::token::Token;
-use pd_board::{BindingTally, State, Tally};
+use pd_board::{BindingTally, State};
+use pd_core::hub::Core;
 use pd_core::word::{is_attached, is_disposed, sum_of};
 use pd_values::Items;
 use std::alloc::{AllocError, Global};
+use std::snapshot::Snapshot;
+
+/// How a board ended up. Only `SharedBoard::close` makes one. Clauses see besides which core it had, and which was its
+/// last token, and that the tally tells what the seats did.
+#[derive(Drop)]
+pub struct Tally {
+    bindings: Items<BindingTally>,
+    answers: Items<u32>,
+    core: Snapshot<Core>,
+    last: Snapshot<Token>,
+    ghost closed: { ∥ IsClosed core.value.layout last.value bindings answers ∥₁ },
+}
+
+impl Tally {
+    /// How each binding ended up, by its number. It takes no memory.
+    pub fn bindings(&self) -> &[BindingTally]
+        ensures { result.now ≡ self.now.bindings }
+    {
+        self.bindings.as_slice()
+    }
+
+    /// How many answers of each session were taken, by its number. It takes no memory.
+    pub fn answers(&self) -> &[u32]
+        ensures { result.now ≡ self.now.answers }
+    {
+        self.answers.as_slice()
+    }
+}
 
 impl SharedBoard {
     /// Ends the board: how each binding ended up, and how many answers of each session were taken. Condition: the token
     /// is one of this board. Where memory runs out it answers `AllocError`, and the board is used up all the same.
     pub fn close(self, alloc: Global, last: Token) -> Result<Tally, AllocError>
         requires { IsOf self.core last }
-        ensures { IfOk result (λ t. IsClosed self.core.layout last t) }
+        ensures closed { IfOk result (λ t. IsClosed self.core.layout last t.bindings t.answers) }
+        ensures of { IfOk result (λ t. (t.core.value ≡ self.core) × (t.last.value ≡ last)) }
     {
+        let core_was = Snapshot::of(&self.core);
+        let last_was = Snapshot::of(&last);
         let SharedBoard {
             core,
-            table: _,
             row_words,
+            ..
         } = self;
         let Token {
             pass,
@@ -41,6 +73,8 @@ impl SharedBoard {
         Ok(Tally {
             bindings: Items::of(bindings),
             answers: Items::of(answers),
+            core: core_was,
+            last: last_was,
         })
     }
 }

@@ -1,5 +1,6 @@
 //! What holds of the steps of a seat's calls.
-ghost use Rattle.pd_shared.specs.Steps.{CountsOne, CountsChain, CountsAttach, CountsDraw, EventCosts};
+ghost use Rattle.pd_shared.specs.Steps.{CountsOne, CountsChain, CountsAttach, CountsDraw};
+ghost use Rattle.pd_shared.specs.Costs.{CallsCost, EnterCosts, EndCosts};
 
 /// By how much each call raises the number of a seat's steps, and what the calls cost that serve one event.
 pub fn steps_are_counted()
@@ -7,5 +8,7 @@ pub fn steps_are_counted()
     ensures chain { CountsChain }
     ensures attach { CountsAttach }
     ensures draw { CountsDraw }
-    ensures event { EventCosts }
+    ensures calls { CallsCost }
+    ensures enter { EnterCosts }
+    ensures end { EndCosts }
 {}

@@ -4,6 +4,7 @@
 mod close;
 mod journal;
 mod laws;
+mod matching;
 mod merge;
 mod replies;
 mod seat;
@@ -14,6 +15,7 @@ mod steps;
 mod tests;
 mod token;
 
+pub use close::Tally;
 pub use laws::steps_are_counted;
 pub use pd_board::{BindingTally, State};
 pub use seat::Seat;

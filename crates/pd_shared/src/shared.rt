@@ -1,10 +1,12 @@
 //! The board that seats share.
-ghost use Rattle.std.specs.Prelude.{◌≡◌, ◌<◌, ◌==◌, map, replicate, IfOk};
-ghost use Rattle.std.specs.List.{list_any};
+ghost use Rattle.std.specs.Prelude.{◌≡◌, ℕ, map, replicate, IfOk};
 ghost use Rattle.pd_board.specs.declared.answers.Known.{Known};
+ghost use Rattle.pd_board.specs.Standing.{in_row};
 ghost use Rattle.pd_core.specs.Views.{first_view};
-ghost use Rattle.pd_core.specs.Layout.{IsSound, Rising, bindings, width};
+ghost use Rattle.pd_core.specs.Layout.{IsSound, width};
+ghost use Rattle.pd_shared.specs.Matching.{stands};
 
+use crate::matching::Matching;
 use crate::token::{Blank, Token};
 use pd_board::Known;
 use pd_core::hub::Core;
@@ -20,35 +22,15 @@ pub(crate) const ALL_SEATS: u64 = 1 << 32;
 pub struct SharedBoard {
     pub(crate) core: Core,
     pub(crate) table: MatchTable,
+    /// Which bindings match a node, by their rows.
+    pub(crate) matching: Matching,
     /// How many row words a node has.
     pub(crate) row_words: u32,
     ghost rows: { table.rows ≡ core.layout.rows },
     ghost sound: { IsSound core.layout },
     ghost wide: { row_words ≡ width core.layout },
-}
-
-impl SharedBoard {
-    ghost use Rattle.pd_board.specs.Standing.{in_row};
-
-    /// Whether the node stands in the binding's row.
-    pub(crate) fn is_in_row(&self, b: u32, n: u32) -> bool
-        requires { b < bindings self.now.core.layout }
-        ensures { result ≡ in_row self.now.table b n }
-    {
-        let row = &self.table.rows.as_slice()[b as usize];
-        has_node(row.as_slice(), n)
-    }
-}
-
-/// Whether the node stands in the row, whose nodes rise.
-fn has_node(row: &[NodeId], n: u32) -> bool
-    requires { Rising row.now }
-    ensures { result ≡ list_any (λ m. m == n) row.now }
-{
-    match row.binary_search_by_key(&n, |m| m.0) {
-        Ok(_) => true,
-        Err(_) => false,
-    }
+    ghost nodes: { matching.nodes ≡ core.layout.nodes },
+    ghost matches: { (n b : ℕ) → stands matching n b ≡ in_row table b n },
 }
 
 impl SharedBoard {
@@ -73,6 +55,7 @@ impl SharedBoard {
     {
         let table = copy_of(alloc, matches)?;
         let given = matches.rows.as_slice();
+        let matching = Matching::of(alloc, given, nodes)?;
         let rows = numbers_of(alloc, given)?;
         let count = given.len();
         let (core, pass) = Core::new(alloc, rows, nodes, sessions, contexts)?;
@@ -84,6 +67,7 @@ impl SharedBoard {
             SharedBoard {
                 core,
                 table,
+                matching,
                 row_words,
             },
             token,

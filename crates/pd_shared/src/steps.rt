@@ -1,5 +1,6 @@
 //! Calls of a seat that take more than one step.
-ghost use Rattle.std.specs.Prelude.{◌≡◌, ℕ, ◌+◌, ◌<◌, ◌≤◌, ◌^◌, ◌/◌, ◌%◌, ◌==◌, true, false, length, vec_len};
+ghost use Rattle.std.specs.Prelude.{◌≡◌, ℕ, ◌+◌, ◌<◌, ◌≤◌, ◌^◌, ◌/◌, ◌%◌, ◌==◌, true, false, length, vec_len, MatchOption};
+ghost use Rattle.pd_board.specs.Bits.{IsLowestFrom};
 ghost use Rattle.pd_board.specs.Chain.{has};
 ghost use Rattle.pd_board.specs.Answers.{known_after_load, is_gone};
 ghost use Rattle.pd_board.specs.Standing.{in_row};
@@ -83,29 +84,46 @@ pub(crate) fn mark_row(core: &Core, pass: &mut Pass, b: u32, nodes: &[NodeId])
     }
 }
 
-/// What is known of a binding after a load of a row word of the node, in which it had its bit or not.
-fn known_loaded(board: &SharedBoard, known: Known, b: u32, n: u32, has_bit: bool) -> Known
-    requires { b < bindings board.now.core.layout }
-    ensures { result ≡ known_after_load (in_row board.now.table b n) has_bit known }
+/// What is known of a binding that matches a node whose row word lacks its bit.
+fn known_missing(known: Known) -> Known
+    ensures { result ≡ known_after_load true false known }
 {
-    if known == Known::Attached && !has_bit && board.is_in_row(b, n) {
+    if known == Known::Attached {
         Known::Disposed
     } else {
         known
     }
 }
 
-/// Makes those disposed that were known as attached, match the node and have no bit in its row word `r`.
+/// The place of the lowest bit of the word that is set, from `low` on.
+fn lowest_from(word: u64, low: u32) -> Option<u32>
+    ensures { MatchOption result ((i : ℕ) → low ≤ i → bit_of word i ≡ 0) (IsLowestFrom word low) }
+{
+    if low >= 64 {
+        return None;
+    }
+    let rest = word >> low;
+    if rest == 0 {
+        return None;
+    }
+    Some(low + rest.trailing_zeros())
+}
+
+/// Makes those disposed that were known as attached, match the node and have no bit in its row word `r`. It visits just
+/// those that match and have none.
 fn find_gone(board: &SharedBoard, known: &mut Vec<Known>, n: u32, r: u32, word: u64)
+    requires node { n < board.now.core.layout.nodes }
     requires row { r < 64 }
     requires len { vec_len known.old ≡ bindings board.now.core.layout }
-    requires few { bindings board.now.core.layout ≤ 4096 }
     ensures len { vec_len known.new ≡ vec_len known.old }
     ensures known { IsRowKnown board.now.table n r word known.old.items known.new.items }
 {
-    let end = (64 * (r + 1)).min(known.len() as u32);
-    for b in 64 * r..end {
-        known[b as usize] = known_loaded(board, known[b as usize], b, n, has_bit(word, b % 64));
+    let missing = board.matching.word(n, r) & !word;
+    let mut low = 0;
+    'bits: while let Some(place) = lowest_from(missing, low) {
+        let b = (64 * r + place) as usize;
+        known[b] = known_missing(known[b]);
+        low = place + 1;
     }
 }
 

@@ -150,13 +150,13 @@ fn worked_calls(rt: HostRuntime) -> Result<(), AllocError> {
     let last = first.rise();
     let tally = board.close(rt.alloc(), last)?;
     assert_eq!(rt;
-        tally.bindings.as_slice(),
+        tally.bindings(),
         [BindingTally {
             state: State::Disposed,
             count: 2
         }]
         .as_slice()
     );
-    assert_eq!(rt; tally.answers.as_slice(), [0].as_slice());
+    assert_eq!(rt; tally.answers(), [0].as_slice());
     Ok(())
 }

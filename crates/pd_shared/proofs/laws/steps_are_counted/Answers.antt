@@ -1,4 +1,5 @@
-use Rattle.pd_shared.proofs.StepLemmas.{counts_one, counts_chain, counts_attach, counts_draw, event_costs}
+use Rattle.pd_shared.proofs.StepLemmas.{counts_one, counts_chain, counts_attach, counts_draw}
+use Rattle.pd_shared.proofs.CostLemmas.{calls_cost, enter_costs, end_costs}
 use Rattle.pd_shared.proofs.laws.steps_are_counted.Goals as goal
 
 pub returns-clause-one : goal.returns-clause-one
@@ -13,5 +14,11 @@ returns-clause-attach c = counts_attach
 pub returns-clause-draw : goal.returns-clause-draw
 returns-clause-draw c = counts_draw
 
-pub returns-clause-event : goal.returns-clause-event
-returns-clause-event c = event_costs
+pub returns-clause-calls : goal.returns-clause-calls
+returns-clause-calls c = calls_cost
+
+pub returns-clause-enter : goal.returns-clause-enter
+returns-clause-enter c = enter_costs
+
+pub returns-clause-end : goal.returns-clause-end
+returns-clause-end c = end_costs

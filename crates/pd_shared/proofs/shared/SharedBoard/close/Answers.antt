@@ -1,12 +1,13 @@
 use Rattle.std.proofs.Common.{◌≡◌, ℕ, ◌+◌, ◌*◌, ◌<◌, ◌^◌, ap, sym, ◌∙◌, subst, arith, length, List}
 use Rattle.std.specs.Prelude.{slice_index}
-use Rattle.pd_board.specs.declared.answers.BindingTally.{BindingTally}
 use Rattle.pd_core.specs.Layout.{Layout, bindings, front, words_in}
 use Rattle.pd_core.specs.Runs.{IsLast}
 use Rattle.pd_core.proofs.Facts.{session_fits}
 use Rattle.pd_core.proofs.Places.{front_is}
-use Rattle.pd_shared.specs.Closed.{AreTallies, AreNumbers}
-use Rattle.pd_shared.proofs.CloseLemmas.{closed}
+use Rattle.pd_core.specs.Tokens.{Hub}
+use Rattle.pd_shared.specs.declared.token.Token.{Token}
+use Rattle.pd_shared.specs.Closed.{IsClosed}
+use Rattle.pd_shared.proofs.CloseLemmas.{closed_by}
 use Rattle.pd_shared.proofs.shared.SharedBoard.close.Goals as goal
 
 pub tallies_in-requires : goal.tallies_in-requires
@@ -43,17 +44,18 @@ numbers_in-requires-clause-fit c s lt =
     let within : s < p.sessions = omega (arith, c.len-4.ensures, c.requires.1.reads.sessions_are) in
     subst (λ (x : List ℕ × ℕ × ℕ). slice_index x.0 (x.1 + x.2 + s) < 2 ^ 32) (λ i. (sym c.as_slice-3.ensures.value i, sym first i, sym count i)) (session_fits p c.in_ok-words.words.items end.0 s end.1 within)
 
-pub returns : goal.returns
-returns c =
-    let p : Layout = c.args.self.core.layout in
-    let nodes : c.len.result ≡ p.nodes = omega (arith, c.len.ensures, c.requires.1.loads.0) in
-    let nodes_2 : c.len-2.result ≡ p.nodes = omega (arith, c.len-2.ensures, c.requires.1.loads.0) in
-    let first : c.len.result + c.len-2.result * c.args.self.row_words ≡ front p = (λ i. nodes i + nodes_2 i * c.args.self.wide i) ∙ sym (front_is p) in
-    let count : c.len-3.result ≡ bindings p = omega (arith, c.len-3.ensures, c.requires.2.counts_are) in
-    let sessions : c.len-4.result ≡ p.sessions = omega (arith, c.len-4.ensures, c.requires.1.reads.sessions_are) in
-    let counts_are : length c.as_slice-2.result.now ≡ bindings p = ap length c.as_slice-2.ensures.value ∙ c.requires.2.counts_are in
-    let tallies : AreTallies c.in_ok-words.words.items (front p) c.args.last.counts.items (bindings p) c.of.result =
-    subst (λ (x : List ℕ × ℕ × List ℕ × ℕ × List BindingTally). AreTallies x.0 x.1 x.2 x.3 x.4) (λ i. (c.as_slice.ensures.value i, first i, c.as_slice-2.ensures.value i, counts_are i, sym c.of.ensures i)) c.in_ok-bindings.ensures in
-    let answers : AreNumbers c.in_ok-words.words.items (front p + bindings p) p.sessions c.of-2.result =
-    subst (λ (x : List ℕ × ℕ × ℕ × ℕ × List ℕ). AreNumbers x.0 (x.1 + x.2) x.3 x.4) (λ i. (c.as_slice-3.ensures.value i, first i, count i, sessions i, sym c.of-2.ensures i)) c.in_ok-answers.ensures in
-    closed p c.args.last c.in_ok-words.words.items (record { bindings = c.of.result; answers = c.of-2.result }) c.in_ok-words.ensures c.requires.1.deeds c.requires.1.known_is c.requires.2 tallies answers
+pub returns-clause-closed : goal.returns-clause-closed
+returns-clause-closed c =
+    closed_by c.args.self.core.layout c.args.last c.in_ok-words.words.items c.as_slice.result.now c.as_slice-3.result.now c.as_slice-2.result.now c.len.result c.len-2.result c.args.self.row_words c.len-3.result c.len-4.result
+    c.in_ok-bindings.bindings.items c.of.result c.in_ok-answers.answers.items c.of-2.result c.in_ok-words.ensures c.requires.1 c.requires.2 c.as_slice.ensures.value c.as_slice-3.ensures.value c.as_slice-2.ensures.value
+    (omega (arith, c.len.ensures, c.requires.1.loads.0)) (omega (arith, c.len-2.ensures, c.requires.1.loads.0)) c.args.self.wide (omega (arith, c.len-3.ensures, c.requires.2.counts_are)) (omega (arith, c.len-4.ensures, c.requires.1.reads.sessions_are))
+    c.of.ensures c.of-2.ensures c.in_ok-bindings.ensures c.in_ok-answers.ensures
+
+pub invariant_of-result : goal.invariant_of-result
+invariant_of-result c = record {
+  closed = ∣ subst (λ (x : Hub × Token). IsClosed x.0.layout x.1 c.of.result c.of-2.result) (λ i. (sym c.of-core_was.ensures i, sym c.of-last_was.ensures i))
+      (closed_by c.args.self.core.layout c.args.last c.in_ok-words.words.items c.as_slice.result.now c.as_slice-3.result.now c.as_slice-2.result.now c.len.result c.len-2.result c.args.self.row_words c.len-3.result c.len-4.result
+      c.in_ok-bindings.bindings.items c.of.result c.in_ok-answers.answers.items c.of-2.result c.in_ok-words.ensures c.requires.1 c.requires.2 c.as_slice.ensures.value c.as_slice-3.ensures.value c.as_slice-2.ensures.value
+      (omega (arith, c.len.ensures, c.requires.1.loads.0)) (omega (arith, c.len-2.ensures, c.requires.1.loads.0)) c.args.self.wide (omega (arith, c.len-3.ensures, c.requires.2.counts_are)) (omega (arith, c.len-4.ensures, c.requires.1.reads.sessions_are))
+      c.of.ensures c.of-2.ensures c.in_ok-bindings.ensures c.in_ok-answers.ensures) ∣₁;
+}
