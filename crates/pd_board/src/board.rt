@@ -19,13 +19,19 @@ pub trait Board {
     /// Where the board stands.
     ghost standing: { Self → Standing };
 
+    /// What the board is, besides where it stands: no call changes it.
+    ghost Base: { Type 0 };
+
+    ghost base: { Self → Self.Base };
+
     /// Makes room for so many steps: draws, passes, acts and answers. Want of memory is free, and changes nothing.
     fn reserve(&mut self, alloc: Global, steps: u32) -> Result<(), AllocError>
         requires draws { steps ≤ (standing self.old).draw_share }
         requires answers { (s : ℕ) → s < (standing self.old).sessions → steps ≤ (standing self.old).answer_share s }
         ensures ok { OnOk result (steps ≤ (standing self.new).spare) }
         ensures err { OnErr result (standing self.new ≡ standing self.old) }
-        ensures rest { standing self.new ≡ record (standing self.old) { spare = (standing self.new).spare } };
+        ensures rest { standing self.new ≡ record (standing self.old) { spare = (standing self.new).spare } }
+        ensures base { Self.base self.new ≡ Self.base self.old };
 
     /// Loads the words of the node `n`: the bindings whose bits they had. A binding of the node that was known as
     /// attached and has no bit there was disposed. All bindings of the answer are due: each is to be drawn, passed or
@@ -44,7 +50,8 @@ pub trait Board {
         ensures alone { KnowsByItself (standing self.new) }
         ensures loads { (m : ℕ) → (standing self.new).loads m ≡ (standing self.old).loads m + (if m == n then 1 else 0) }
         ensures all_loads { (standing self.new).all_loads ≡ (standing self.old).all_loads + 1 }
-        ensures rest { standing self.new ≡ record (standing self.old) { held = (standing self.new).held; due = (standing self.new).due; last_node = (standing self.new).last_node; known = (standing self.new).known; loads = (standing self.new).loads; all_loads = (standing self.new).all_loads } };
+        ensures rest { standing self.new ≡ record (standing self.old) { held = (standing self.new).held; due = (standing self.new).due; last_node = (standing self.new).last_node; known = (standing self.new).known; loads = (standing self.new).loads; all_loads = (standing self.new).all_loads } }
+        ensures base { Self.base self.new ≡ Self.base self.old };
 
     /// What the board has learnt of the binding.
     fn known(&self, b: u32) -> Known
@@ -77,7 +84,8 @@ pub trait Board {
         ensures due { (c : ℕ) → (standing self.new).due c ≡ (not (c == b) && (standing self.old).due c) }
         ensures spare { (standing self.new).spare + 1 ≡ (standing self.old).spare }
         ensures share { ((standing self.new).draw_share ≤ (standing self.old).draw_share) × ((standing self.old).draw_share ≤ (standing self.new).draw_share + 1) }
-        ensures rest { standing self.new ≡ record (standing self.old) { sights = (standing self.new).sights; sight_loads = (standing self.new).sight_loads; known = (standing self.new).known; due = (standing self.new).due; spare = (standing self.new).spare; draw_share = (standing self.new).draw_share } };
+        ensures rest { standing self.new ≡ record (standing self.old) { sights = (standing self.new).sights; sight_loads = (standing self.new).sight_loads; known = (standing self.new).known; due = (standing self.new).due; spare = (standing self.new).spare; draw_share = (standing self.new).draw_share } }
+        ensures base { Self.base self.new ≡ Self.base self.old };
 
     /// Keeps that the binding was met at the event and not drawn. Where it isn't known as disposed, the last load left
     /// it due, and it isn't always drawn.
@@ -91,7 +99,8 @@ pub trait Board {
         ensures passed { (standing self.new).passes ≡ (standing self.old).passes ++ record { event = event; binding = b; disposed = is_gone ((standing self.old).known b); before = (standing self.old).all_loads } ∷ [] }
         ensures due { (c : ℕ) → (standing self.new).due c ≡ (not (c == b && not (is_gone ((standing self.old).known b))) && (standing self.old).due c) }
         ensures spare { (standing self.new).spare + 1 ≡ (standing self.old).spare }
-        ensures rest { standing self.new ≡ record (standing self.old) { passes = (standing self.new).passes; due = (standing self.new).due; spare = (standing self.new).spare } };
+        ensures rest { standing self.new ≡ record (standing self.old) { passes = (standing self.new).passes; due = (standing self.new).due; spare = (standing self.new).spare } }
+        ensures base { Self.base self.new ≡ Self.base self.old };
 
     /// Clears the bit of the binding, which is known as disposed and due, in the words of the node `n`, which was
     /// loaded last.
@@ -105,7 +114,8 @@ pub trait Board {
 
         ensures due { (c : ℕ) → (standing self.new).due c ≡ (not (c == b) && (standing self.old).due c) }
         ensures cleared { (standing self.new).cleared ≡ (standing self.old).cleared + 1 }
-        ensures rest { standing self.new ≡ record (standing self.old) { due = (standing self.new).due; cleared = (standing self.new).cleared } };
+        ensures rest { standing self.new ≡ record (standing self.old) { due = (standing self.new).due; cleared = (standing self.new).cleared } }
+        ensures base { Self.base self.new ≡ Self.base self.old };
 
     /// Sets the binding's bit at each node of its row, and then sets it attached.
     fn attach(&mut self, b: u32) -> Attach
@@ -128,7 +138,8 @@ pub trait Board {
         ensures alone_first { (standing self.old).alone ≡ true → (result ≡ Attach.Attached) ↔ ((has_attach b (standing self.old).replies ≡ false) × (has_dispose b (standing self.old).replies ≡ false)) }
 
         ensures spare { (standing self.new).spare + 1 ≡ (standing self.old).spare }
-        ensures rest { standing self.new ≡ record (standing self.old) { replies = (standing self.new).replies; known = (standing self.new).known; spare = (standing self.new).spare } };
+        ensures rest { standing self.new ≡ record (standing self.old) { replies = (standing self.new).replies; known = (standing self.new).known; spare = (standing self.new).spare } }
+        ensures base { Self.base self.new ≡ Self.base self.old };
 
     /// Sets the binding disposed, whether it was attached or not.
     fn dispose(&mut self, b: u32) -> Dispose
@@ -141,7 +152,8 @@ pub trait Board {
         ensures other { (c : ℕ) → (c == b) ≡ false → (standing self.new).known c ≡ (standing self.old).known c }
         ensures alone { KnowsByItself (standing self.new) }
         ensures spare { (standing self.new).spare + 1 ≡ (standing self.old).spare }
-        ensures rest { standing self.new ≡ record (standing self.old) { replies = (standing self.new).replies; known = (standing self.new).known; spare = (standing self.new).spare } };
+        ensures rest { standing self.new ≡ record (standing self.old) { replies = (standing self.new).replies; known = (standing self.new).known; spare = (standing self.new).spare } }
+        ensures base { Self.base self.new ≡ Self.base self.old };
 
     /// Switches the binding on: from now on its numbers are places again.
     fn enable(&mut self, b: u32) -> Toggle
@@ -156,7 +168,8 @@ pub trait Board {
         ensures other { (c : ℕ) → (c == b) ≡ false → (standing self.new).known c ≡ (standing self.old).known c }
         ensures alone { KnowsByItself (standing self.new) }
         ensures spare { (standing self.new).spare + 1 ≡ (standing self.old).spare }
-        ensures rest { standing self.new ≡ record (standing self.old) { replies = (standing self.new).replies; known = (standing self.new).known; spare = (standing self.new).spare } };
+        ensures rest { standing self.new ≡ record (standing self.old) { replies = (standing self.new).replies; known = (standing self.new).known; spare = (standing self.new).spare } }
+        ensures base { Self.base self.new ≡ Self.base self.old };
 
     /// Switches the binding off: from now on its numbers give no entry.
     fn disable(&mut self, b: u32) -> Toggle
@@ -171,7 +184,8 @@ pub trait Board {
         ensures other { (c : ℕ) → (c == b) ≡ false → (standing self.new).known c ≡ (standing self.old).known c }
         ensures alone { KnowsByItself (standing self.new) }
         ensures spare { (standing self.new).spare + 1 ≡ (standing self.old).spare }
-        ensures rest { standing self.new ≡ record (standing self.old) { replies = (standing self.new).replies; known = (standing self.new).known; spare = (standing self.new).spare } };
+        ensures rest { standing self.new ≡ record (standing self.old) { replies = (standing self.new).replies; known = (standing self.new).known; spare = (standing self.new).spare } }
+        ensures base { Self.base self.new ≡ Self.base self.old };
 
     /// Takes the session's next answer number, counted from 0. It is above all that this board took for the session.
     fn take_answer(&mut self, session: u32) -> u32
@@ -185,7 +199,8 @@ pub trait Board {
         ensures other { (s : ℕ) → (s == session) ≡ false → (standing self.new).numbers s ≡ (standing self.old).numbers s }
         ensures share { (s : ℕ) → (standing self.new).answer_share s + (if s == session then 1 else 0) ≡ (standing self.old).answer_share s }
         ensures spare { (standing self.new).spare + 1 ≡ (standing self.old).spare }
-        ensures rest { standing self.new ≡ record (standing self.old) { numbers = (standing self.new).numbers; answer_share = (standing self.new).answer_share; spare = (standing self.new).spare } };
+        ensures rest { standing self.new ≡ record (standing self.old) { numbers = (standing self.new).numbers; answer_share = (standing self.new).answer_share; spare = (standing self.new).spare } }
+        ensures base { Self.base self.new ≡ Self.base self.old };
 
     /// How many answers of the session were taken, on all boards together.
     fn answers(&mut self, session: u32) -> u32
@@ -196,14 +211,16 @@ pub trait Board {
         ensures last { (standing self.new).last_answers session ≡ result }
         ensures other { (s : ℕ) → (s == session) ≡ false → (standing self.new).last_answers s ≡ (standing self.old).last_answers s }
         ensures loads { (s : ℕ) → (standing self.new).answer_loads s ≡ (standing self.old).answer_loads s + (if s == session then 1 else 0) }
-        ensures rest { standing self.new ≡ record (standing self.old) { last_answers = (standing self.new).last_answers; answer_loads = (standing self.new).answer_loads } };
+        ensures rest { standing self.new ≡ record (standing self.old) { last_answers = (standing self.new).last_answers; answer_loads = (standing self.new).answer_loads } }
+        ensures base { Self.base self.new ≡ Self.base self.old };
 
     /// Counts this board's context as ended, once: a second call changes nothing.
     fn ended(&mut self)
         requires share { (standing self.old).ended ≡ false → 0 < (standing self.old).end_share }
         ensures ended { (standing self.new).ended ≡ true }
         ensures share { (standing self.new).end_share + (if (standing self.old).ended then 0 else 1) ≡ (standing self.old).end_share }
-        ensures rest { standing self.new ≡ record (standing self.old) { ended = (standing self.new).ended; end_share = (standing self.new).end_share } };
+        ensures rest { standing self.new ≡ record (standing self.old) { ended = (standing self.new).ended; end_share = (standing self.new).end_share } }
+        ensures base { Self.base self.new ≡ Self.base self.old };
 
     /// Whether all contexts have ended.
     fn all_ended(&mut self) -> bool
@@ -211,5 +228,6 @@ pub trait Board {
         ensures all { IsTrue result ↔ ((standing self.old).contexts ≤ (standing self.new).last_ends) }
         ensures no_less { (standing self.old).last_ends ≤ (standing self.new).last_ends }
         ensures loads { (standing self.new).end_loads ≡ (standing self.old).end_loads + 1 }
-        ensures rest { standing self.new ≡ record (standing self.old) { last_ends = (standing self.new).last_ends; end_loads = (standing self.new).end_loads } };
+        ensures rest { standing self.new ≡ record (standing self.old) { last_ends = (standing self.new).last_ends; end_loads = (standing self.new).end_loads } }
+        ensures base { Self.base self.new ≡ Self.base self.old };
 }

@@ -197,6 +197,10 @@ impl Board for PlainBoard {
 
     ghost standing = { standing_of };
 
+    ghost Base = { Unit {0} };
+
+    ghost base = { λ _. tt };
+
     fn reserve(&mut self, _alloc: Global, steps: u32) -> Result<(), AllocError> {
         self.journal.reserve(steps)
     }
