@@ -1,9 +1,10 @@
 -- Where a seat stands.
-use Rattle.std.specs.Prelude.{◌≡◌, ℕ, ◌==◌, if◌then◌else◌, slice_index, Option, Some, None}
+use Rattle.std.specs.Prelude.{◌≡◌, ℕ, ◌==◌, if◌then◌else◌, List, slice_index, Option, Some, None}
 use Rattle.std.specs.List.{filter_map}
 use Rattle.pd_plan.specs.declared.table.MatchTable.{MatchTable}
 use Rattle.pd_board.specs.Chain.{has}
 use Rattle.pd_board.specs.Standing.{Standing}
+use Rattle.pd_core.specs.declared.view.Deeds.{Deeds}
 use Rattle.pd_core.specs.Tokens.{Hub}
 use Rattle.pd_core.specs.Talks.{answer_share}
 use Rattle.pd_shared.specs.declared.token.Token.{Token}
@@ -49,6 +50,34 @@ standing_of s = record {
   last_node = s.token.last_node;
   held = has s.token.held;
   due = has s.token.due;
+}
+
+-- What a seat has besides where it stands. It has this from splits and joins, and no call of a board changes it
+pub record Base : Type 0 where
+  pub hub : Hub
+  -- its shares of the seats, and how many of these it counts
+  pub seat_share : ℕ
+  pub seats : ℕ
+  -- how many answers of each session it may take in all
+  pub granted : ℕ
+  -- what the seats did that it took in: to bindings, their answer numbers, what they read, and how many of them ended
+  pub taken : List Deeds
+  pub handed : List (ℕ × ℕ)
+  pub handed_reads : List (ℕ × ℕ)
+  pub handed_end_reads : List ℕ
+  pub ends : ℕ
+
+abbrev pub base_of : Sitting → Base
+base_of s = record {
+  hub = s.hub;
+  seat_share = s.token.pass.view.seat_share;
+  seats = s.token.seats;
+  granted = s.token.pass.view.talk.granted;
+  taken = s.token.pass.view.taken;
+  handed = s.token.pass.view.talk.handed;
+  handed_reads = s.token.pass.view.talk.handed_reads;
+  handed_end_reads = s.token.pass.view.talk.handed_end_reads;
+  ends = s.token.pass.view.talk.ends;
 }
 
 -- the token is one of the board with this core: its pass is, and what it keeps is what its pass did

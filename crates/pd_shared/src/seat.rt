@@ -193,9 +193,13 @@ impl<'b> Board for Seat<'b> {
     ghost use Rattle.pd_shared.specs.Took.{Took, DrawSteps};
     ghost use Rattle.pd_shared.specs.Loading.{bit_loaded};
     ghost use Rattle.pd_shared.specs.Steps.{TookOne, AttachSteps, ChainSteps, EndSteps};
-    ghost use Rattle.pd_shared.specs.Sitting.{standing_of};
+    ghost use Rattle.pd_shared.specs.Sitting.{Base, standing_of, base_of};
 
     ghost standing = { standing_of };
+
+    ghost Base = { Base };
+
+    ghost base = { base_of };
 
     fn reserve(&mut self, _alloc: Global, steps: u32) -> Result<(), AllocError>
         requires draws { steps ≤ (standing_of self.old).draw_share }
@@ -203,6 +207,7 @@ impl<'b> Board for Seat<'b> {
         ensures ok { OnOk result (steps ≤ (standing_of self.new).spare) }
         ensures err { OnErr result (standing_of self.new ≡ standing_of self.old) }
         ensures rest { standing_of self.new ≡ record (standing_of self.old) { spare = (standing_of self.new).spare } }
+        ensures base { base_of self.new ≡ base_of self.old }
         ensures hub { self.new.hub ≡ self.old.hub }
         ensures steps { self.new.token.pass ≡ self.old.token.pass }
     {
@@ -224,6 +229,7 @@ impl<'b> Board for Seat<'b> {
         ensures loads { (m : ℕ) → (standing_of self.new).loads m ≡ (standing_of self.old).loads m + (if m == n then 1 else 0) }
         ensures all_loads { (standing_of self.new).all_loads ≡ (standing_of self.old).all_loads + 1 }
         ensures rest { standing_of self.new ≡ record (standing_of self.old) { held = (standing_of self.new).held; due = (standing_of self.new).due; last_node = (standing_of self.new).last_node; known = (standing_of self.new).known; loads = (standing_of self.new).loads; all_loads = (standing_of self.new).all_loads } }
+        ensures base { base_of self.new ≡ base_of self.old }
         ensures hub { self.new.hub ≡ self.old.hub }
         // The bindings whose bits the row words had that this call loaded.
         ensures bits { (b : ℕ) → has result b ≡ bit_loaded self.new.token.pass.view.loaded b }
@@ -265,6 +271,7 @@ impl<'b> Board for Seat<'b> {
         ensures spare { (standing_of self.new).spare + 1 ≡ (standing_of self.old).spare }
         ensures share { ((standing_of self.new).draw_share ≤ (standing_of self.old).draw_share) × ((standing_of self.old).draw_share ≤ (standing_of self.new).draw_share + 1) }
         ensures rest { standing_of self.new ≡ record (standing_of self.old) { sights = (standing_of self.new).sights; sight_loads = (standing_of self.new).sight_loads; known = (standing_of self.new).known; due = (standing_of self.new).due; spare = (standing_of self.new).spare; draw_share = (standing_of self.new).draw_share } }
+        ensures base { base_of self.new ≡ base_of self.old }
         ensures hub { self.new.hub ≡ self.old.hub }
         ensures steps { DrawSteps self.old.hub.layout event b self.old.token.pass.view self.new.token.pass.view result ((standing_of self.new).known b) }
     {
@@ -292,6 +299,7 @@ impl<'b> Board for Seat<'b> {
         ensures due { (c : ℕ) → (standing_of self.new).due c ≡ (not (c == b && not (is_gone ((standing_of self.old).known b))) && (standing_of self.old).due c) }
         ensures spare { (standing_of self.new).spare + 1 ≡ (standing_of self.old).spare }
         ensures rest { standing_of self.new ≡ record (standing_of self.old) { passes = (standing_of self.new).passes; due = (standing_of self.new).due; spare = (standing_of self.new).spare } }
+        ensures base { base_of self.new ≡ base_of self.old }
         ensures hub { self.new.hub ≡ self.old.hub }
         ensures steps { self.new.token.pass ≡ self.old.token.pass }
     {
@@ -318,6 +326,7 @@ impl<'b> Board for Seat<'b> {
         ensures due { (c : ℕ) → (standing_of self.new).due c ≡ (not (c == b) && (standing_of self.old).due c) }
         ensures cleared { (standing_of self.new).cleared ≡ (standing_of self.old).cleared + 1 }
         ensures rest { standing_of self.new ≡ record (standing_of self.old) { due = (standing_of self.new).due; cleared = (standing_of self.new).cleared } }
+        ensures base { base_of self.new ≡ base_of self.old }
         ensures hub { self.new.hub ≡ self.old.hub }
         ensures steps { TookOne self.old.hub.layout (clear_bit n b) self.old.token.pass.view self.new.token.pass.view }
     {
@@ -347,6 +356,7 @@ impl<'b> Board for Seat<'b> {
 
         ensures spare { (standing_of self.new).spare + 1 ≡ (standing_of self.old).spare }
         ensures rest { standing_of self.new ≡ record (standing_of self.old) { replies = (standing_of self.new).replies; known = (standing_of self.new).known; spare = (standing_of self.new).spare } }
+        ensures base { base_of self.new ≡ base_of self.old }
         ensures hub { self.new.hub ≡ self.old.hub }
         ensures steps { AttachSteps self.old.hub.layout b self.old.token.pass.view self.new.token.pass.view }
     {
@@ -370,6 +380,7 @@ impl<'b> Board for Seat<'b> {
         ensures alone { KnowsByItself (standing_of self.new) }
         ensures spare { (standing_of self.new).spare + 1 ≡ (standing_of self.old).spare }
         ensures rest { standing_of self.new ≡ record (standing_of self.old) { replies = (standing_of self.new).replies; known = (standing_of self.new).known; spare = (standing_of self.new).spare } }
+        ensures base { base_of self.new ≡ base_of self.old }
         ensures hub { self.new.hub ≡ self.old.hub }
         ensures steps { TookOne self.old.hub.layout (set_disposed b) self.old.token.pass.view self.new.token.pass.view }
     {
@@ -394,6 +405,7 @@ impl<'b> Board for Seat<'b> {
         ensures alone { KnowsByItself (standing_of self.new) }
         ensures spare { (standing_of self.new).spare + 1 ≡ (standing_of self.old).spare }
         ensures rest { standing_of self.new ≡ record (standing_of self.old) { replies = (standing_of self.new).replies; known = (standing_of self.new).known; spare = (standing_of self.new).spare } }
+        ensures base { base_of self.new ≡ base_of self.old }
         ensures hub { self.new.hub ≡ self.old.hub }
         ensures steps { TookOne self.old.hub.layout (clear_off b) self.old.token.pass.view self.new.token.pass.view }
     {
@@ -417,6 +429,7 @@ impl<'b> Board for Seat<'b> {
         ensures alone { KnowsByItself (standing_of self.new) }
         ensures spare { (standing_of self.new).spare + 1 ≡ (standing_of self.old).spare }
         ensures rest { standing_of self.new ≡ record (standing_of self.old) { replies = (standing_of self.new).replies; known = (standing_of self.new).known; spare = (standing_of self.new).spare } }
+        ensures base { base_of self.new ≡ base_of self.old }
         ensures hub { self.new.hub ≡ self.old.hub }
         ensures steps { TookOne self.old.hub.layout (set_off b) self.old.token.pass.view self.new.token.pass.view }
     {
@@ -439,6 +452,7 @@ impl<'b> Board for Seat<'b> {
         ensures share { (s : ℕ) → (standing_of self.new).answer_share s + (if s == session then 1 else 0) ≡ (standing_of self.old).answer_share s }
         ensures spare { (standing_of self.new).spare + 1 ≡ (standing_of self.old).spare }
         ensures rest { standing_of self.new ≡ record (standing_of self.old) { numbers = (standing_of self.new).numbers; answer_share = (standing_of self.new).answer_share; spare = (standing_of self.new).spare } }
+        ensures base { base_of self.new ≡ base_of self.old }
         ensures hub { self.new.hub ≡ self.old.hub }
         ensures steps { Took self.old.hub.layout (count_answer session) self.old.token.pass.view result self.new.token.pass.view }
     {
@@ -456,6 +470,7 @@ impl<'b> Board for Seat<'b> {
         ensures other { (s : ℕ) → (s == session) ≡ false → (standing_of self.new).last_answers s ≡ (standing_of self.old).last_answers s }
         ensures loads { (s : ℕ) → (standing_of self.new).answer_loads s ≡ (standing_of self.old).answer_loads s + (if s == session then 1 else 0) }
         ensures rest { standing_of self.new ≡ record (standing_of self.old) { last_answers = (standing_of self.new).last_answers; answer_loads = (standing_of self.new).answer_loads } }
+        ensures base { base_of self.new ≡ base_of self.old }
         ensures hub { self.new.hub ≡ self.old.hub }
         ensures steps { Took self.old.hub.layout (load_answers session) self.old.token.pass.view result self.new.token.pass.view }
     {
@@ -471,6 +486,7 @@ impl<'b> Board for Seat<'b> {
         ensures ended { (standing_of self.new).ended ≡ true }
         ensures share { (standing_of self.new).end_share + (if (standing_of self.old).ended then 0 else 1) ≡ (standing_of self.old).end_share }
         ensures rest { standing_of self.new ≡ record (standing_of self.old) { ended = (standing_of self.new).ended; end_share = (standing_of self.new).end_share } }
+        ensures base { base_of self.new ≡ base_of self.old }
         ensures hub { self.new.hub ≡ self.old.hub }
         ensures steps { EndSteps self.old.token.ended self.old.hub.layout self.old.token.pass.view self.new.token.pass.view }
     {
@@ -486,6 +502,7 @@ impl<'b> Board for Seat<'b> {
         ensures no_less { (standing_of self.old).last_ends ≤ (standing_of self.new).last_ends }
         ensures loads { (standing_of self.new).end_loads ≡ (standing_of self.old).end_loads + 1 }
         ensures rest { standing_of self.new ≡ record (standing_of self.old) { last_ends = (standing_of self.new).last_ends; end_loads = (standing_of self.new).end_loads } }
+        ensures base { base_of self.new ≡ base_of self.old }
         ensures hub { self.new.hub ≡ self.old.hub }
         ensures steps { Took self.old.hub.layout load_ends self.old.token.pass.view (standing_of self.new).last_ends self.new.token.pass.view }
     {
