@@ -10,8 +10,6 @@ mod memory_library;
 mod memory_sink;
 mod output;
 mod sink;
-#[cfg(test)]
-mod tests;
 
 pub use fault::{Failed, FetchFault};
 pub use folder::FolderLibrary;

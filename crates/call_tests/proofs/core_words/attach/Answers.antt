@@ -5,8 +5,8 @@ use Rattle.pd_core.specs.Tokens.{Holder}
 use Rattle.pd_core.specs.Words.{disposed}
 use Rattle.pd_core.specs.Kinds.{after, set_bit, set_summary, set_attached}
 use Rattle.pd_core.proofs.Admitted.{inside}
-use Rattle.pd_core.proofs.Examples.{first_bit, first_summary, first_attach}
-use Rattle.pd_core.proofs.tests.attach.Goals as goal
+use Rattle.call_tests.proofs.CoreExamples.{first_bit, first_summary, first_attach}
+use Rattle.call_tests.proofs.core_words.attach.Goals as goal
 
 pub set_bit-requires : goal.set_bit-requires
 set_bit-requires c = (c.requires.0, inside (set_bit 3 0) _ _ _ _ c.requires.1 c.requires.2 first_bit)

@@ -1,8 +1,9 @@
-//! A source that is linked.
-use crate::program::link;
+//! `pd_link`: a source that is linked.
+use crate::fixtures::text;
+use pd_link::link;
 use pd_sections::Section;
 use pd_tree::{Builder, Kind, Meaning};
-use pd_values::{Items, NodeId, Text};
+use pd_values::{Items, NodeId};
 use std::test::Fail;
 
 /// The nodes of `.`, a main block that does nothing.
@@ -14,7 +15,7 @@ fn a_main_block(rt: HostRuntime) -> Result<(), Fail> {
         start: 0,
         len: 1,
     };
-    let name = Text::of("".to_string(alloc)?);
+    let name = text(alloc, "")?;
     let variables = Items::of(Vec::new(alloc));
     let block = Kind::PlProcedure { name, variables };
     let mut builder = Builder::new(alloc);

@@ -1,7 +1,9 @@
-//! Answers at the edges, worked out by hand.
-use super::*;
-use crate::items::Items;
-use crate::value::NodeId;
+//! `pd_values`: answers at the edges, worked out by hand.
+use pd_values::{
+    Cmp, Fault, Items, NodeId, Stop, Text, Value, add, compare, div, equal, minus, mul, odd, plus,
+    show, sub,
+};
+use std::alloc::Global;
 use std::process::Abort;
 use std::test::Fail;
 

@@ -1,16 +1,14 @@
-//! A source with its nodes, by hand from the table of nodes.
-use crate::read::parts_of;
+//! `pd_pl0_read`: a source with its nodes, by hand from the table of nodes.
+use crate::fixtures::source;
 use pd_pl0_lex::lex;
-use pd_sections::{MOST_BYTES, Source};
+use pd_pl0_read::parts_of;
 use std::test::Fail;
 
 /// Each node by its first token, the one after its last, and the number of its parts.
 #[test]
 fn answers(rt: HostRuntime) -> Result<(), Fail> {
     let text = "procedure p; ; begin call p; ! -1 end.";
-    let bytes = Vec::from_slice(rt.alloc(), text.as_bytes())?;
-    assert!(rt; bytes.len() <= MOST_BYTES);
-    let source = Source::new(rt.alloc(), String::from_str(rt.alloc(), "t")?, bytes)?;
+    let source = source(&rt, rt.alloc(), text)?;
     let tokens = lex(rt.alloc(), &source)?;
     let mut found = String::new(rt.alloc());
     let nodes = parts_of(rt.alloc(), &source, &tokens, 10)?;

@@ -1,7 +1,8 @@
-//! Sources with what their trees are, by hand from the rules of nodes and scopes, and refused ones.
-use crate::build::parse;
+//! `pd_pl0_parse`: sources with what their trees are, by hand from the rules of nodes and scopes, and refused ones.
+use crate::fixtures::source;
 use pd_pl0_lex::lex;
-use pd_sections::{MOST_BYTES, Source, Stop};
+use pd_pl0_parse::parse;
+use pd_sections::Stop;
 use pd_tree::{Addition, Kind, Meaning};
 use std::alloc::{AllocError, Global};
 use std::process::Abort;
@@ -31,9 +32,7 @@ fn shown(alloc: Global, additions: &[Addition]) -> Result<String, AllocError> {
 }
 
 fn answer(rt: &impl Abort, alloc: Global, text: &str) -> Result<String, Fail> {
-    let bytes = Vec::from_slice(alloc, text.as_bytes())?;
-    assert!(rt; bytes.len() <= MOST_BYTES);
-    let source = Source::new(alloc, String::from_str(alloc, "t")?, bytes)?;
+    let source = source(rt, alloc, text)?;
     let tokens = lex(alloc, &source)?;
     match parse(alloc, &source, 0, &tokens, 65_536) {
         Ok(tree) => Ok(shown(alloc, tree.additions())?),

@@ -1,10 +1,11 @@
+//! `pd_core`: the steps on the shared words, alone and in threads.
 ghost use Rattle.std.specs.Prelude.{◌≡◌, ◌<◌, ◌≤◌, true, IfOk, IfSome};
 ghost use Rattle.pd_core.specs.Layout.{bindings, layout_of};
 ghost use Rattle.pd_core.specs.Views.{first_view, known, found_attached};
 ghost use Rattle.pd_core.specs.Examples.{one_binding, IsAttached};
 
-use crate::hub::{Core, Pass, bits_come_by_set_bit, every_run_is_good};
-use crate::word::{has_bit, is_attached, is_disposed, is_live, is_off, sum_of};
+use pd_core::hub::{Core, Pass, bits_come_by_set_bit, every_run_is_good};
+use pd_core::word::{has_bit, is_attached, is_disposed, is_live, is_off, sum_of};
 use std::alloc::{AllocError, Global};
 use std::thread;
 use std::thread::Threads;

@@ -4,7 +4,7 @@ use Rattle.pd_core.specs.Tokens.{Holder}
 use Rattle.pd_core.specs.Words.{live}
 use Rattle.pd_core.specs.Views.{known}
 use Rattle.pd_core.proofs.Facts.{known_drew_on}
-use Rattle.pd_core.proofs.tests.draw_twice.Goals as goal
+use Rattle.call_tests.proofs.core_words.draw_twice.Goals as goal
 
 pub add_draw-one-requires : goal.add_draw-one-requires
 add_draw-one-requires c = (c.requires.0, (subst (λ (q : Layout). 0 < bindings q) (sym c.requires.1) (omega arith), (c.requires.2, omega (arith, c.requires.3)), tt))

@@ -1,20 +1,11 @@
-ghost use Rattle.std.specs.Prelude.{◌≡◌, ◌≤◌, length, IfOk};
-
-use super::*;
+//! `pd_sections`: places of a source, what is no text, and tokens by their numbers.
+use crate::fixtures::source_of;
+use pd_sections::{NotUtf8, Section, Stop, Token, TokenKind, Tokens};
 use std::test::Fail;
-
-fn made(alloc: Global, bytes: &[u8]) -> Result<Source, Stop<NotUtf8>>
-    requires { length bytes.now ≤ MOST_BYTES }
-    ensures { IfOk result (λ source. source.bytes ≡ bytes.now) }
-{
-    let name = String::from_str(alloc, "a.sl")?;
-    let bytes = Vec::from_slice(alloc, bytes)?;
-    Source::new(alloc, name, bytes)
-}
 
 #[test]
 fn places_have_lines_columns_and_texts(rt: HostRuntime) -> Result<(), Fail> {
-    let source = made(rt.alloc(), b"a\r\nb\rc\n\nd")?;
+    let source = source_of(rt.alloc(), b"a\r\nb\rc\n\nd")?;
     assert_eq!(rt; source.name(), "a.sl");
     assert_eq!(rt; source.bytes(), b"a\r\nb\rc\n\nd".as_slice());
     let places = [
@@ -51,7 +42,7 @@ fn bytes_that_are_no_text_are_refused(rt: HostRuntime) -> Result<(), Fail> {
         (b"x\xED\xA0\x80".as_slice(), 1),
     ] {
         assert!(rt; bytes.len() < 9);
-        let refused = made(rt.alloc(), bytes).err();
+        let refused = source_of(rt.alloc(), bytes).err();
         assert_eq!(rt; refused, Some(Stop::Refused(NotUtf8 { at })));
     }
     Ok(())

@@ -1,4 +1,8 @@
-use super::*;
+//! `pd_outside`: a library and a sink over memory, over real files and a real writer.
+use pd_outside::{
+    Failed, FetchFault, FolderLibrary, Gate, Library, MemoryLibrary, MemorySink, OpenGate,
+    OutputSink, Sink,
+};
 use std::alloc::{AllocError, Global};
 use std::process::Abort;
 use std::test::Fail;

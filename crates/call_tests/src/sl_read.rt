@@ -1,8 +1,8 @@
-//! Sources with their nodes, by hand from the tables of nodes, and damaged ones with their places.
-use crate::parts::{Part, Shape};
-use crate::read::parts_of;
-use pd_sections::{MOST_BYTES, Source, Stop};
+//! `pd_sl_read`: sources with their nodes, by hand from the tables of nodes, and damaged ones with their places.
+use crate::fixtures::source;
+use pd_sections::Stop;
 use pd_sl_lex::lex;
+use pd_sl_read::{Part, Shape, parts_of};
 use pd_tree::Operator;
 use pd_turn::Node;
 use std::alloc::{AllocError, Global};
@@ -53,9 +53,7 @@ fn shown(alloc: Global, nodes: &[Node<Part>]) -> Result<String, AllocError> {
 }
 
 fn answer(rt: &impl Abort, alloc: Global, text: &str, room: u32) -> Result<String, Fail> {
-    let bytes = Vec::from_slice(alloc, text.as_bytes())?;
-    assert!(rt; bytes.len() <= MOST_BYTES);
-    let source = Source::new(alloc, String::from_str(alloc, "t")?, bytes)?;
+    let source = source(rt, alloc, text)?;
     let tokens = lex(alloc, &source)?;
     match parts_of(alloc, &source, &tokens, room) {
         Ok(nodes) => Ok(shown(alloc, nodes.as_slice())?),

@@ -1,7 +1,10 @@
+//! `pd_pl0_lex`: sources with their tokens, and refused ones with their places.
 ghost use Rattle.std.specs.Prelude.{◌≤◌, length};
 
-use super::*;
-use pd_sections::{NotUtf8, Rule, Token};
+use crate::fixtures::{expect_tokens, source_of};
+use pd_pl0_lex::lex;
+use pd_sections::{MOST_BYTES, NotUtf8, Refusal, Rule, Stop, TokenKind, Tokens};
+use std::alloc::Global;
 use std::test::Fail;
 
 const NAME: TokenKind = TokenKind::Name;
@@ -15,8 +18,7 @@ const SYMBOL: TokenKind = TokenKind::Symbol;
 fn lexed(alloc: Global, bytes: &[u8]) -> Result<Result<Tokens, Stop<Refusal>>, Stop<NotUtf8>>
     requires { length bytes.now ≤ MOST_BYTES }
 {
-    let name = String::from_str(alloc, "a.pl0")?;
-    let source = Source::new(alloc, name, Vec::from_slice(alloc, bytes)?)?;
+    let source = source_of(alloc, bytes)?;
     Ok(lex(alloc, &source))
 }
 
@@ -38,16 +40,7 @@ fn each_token_is_the_longest(rt: HostRuntime) -> Result<(), Fail> {
         (SYMBOL, 31, 1),
     ];
     let tokens = lexed(rt.alloc(), text)??;
-    assert_eq!(rt; tokens.len() as usize, expected.len());
-    for (i, (kind, start, len)) in expected.iter().enumerate() {
-        assert!(rt; i < tokens.len() as usize);
-        let token = Token {
-            kind: *kind,
-            start: *start,
-            len: *len,
-        };
-        assert_eq!(rt; tokens.get(i as u32), token, "token {i}");
-    }
+    expect_tokens(&rt, &tokens, expected.as_slice());
     Ok(())
 }
 

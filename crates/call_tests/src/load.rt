@@ -1,19 +1,16 @@
-//! Two sources with two exports of the second and one context at the first.
+//! `pd_load`: two sources with two exports of the second and one context at the first.
 ghost use Rattle.std.specs.Prelude.{◌≡◌, length, IfOk};
 ghost use Rattle.pd_plan.specs.Sound.{IsSound, ContextFits};
 
-use crate::loading::load;
+use crate::fixtures::{source, text};
+use pd_load::{LoadRefusal, load};
 use pd_plan::{ContextSpec, ExportSpec, Language, Plan, SourceSpec};
-use pd_sections::{MOST_BYTES, Source, Stop};
+use pd_sections::Stop;
 use pd_tree::{Meaning, Program};
-use pd_values::{Items, NodeId, Text};
+use pd_values::{Items, NodeId};
 use std::alloc::{AllocError, Global};
 use std::process::Abort;
 use std::test::Fail;
-
-fn text(alloc: Global, chars: &str) -> Result<Text, AllocError> {
-    Ok(Text::of(String::from_str(alloc, chars)?))
-}
 
 fn spec(alloc: Global, language: Language) -> Result<SourceSpec, AllocError> {
     let name = text(alloc, "t")?;
@@ -42,7 +39,8 @@ fn context(alloc: Global, entry: &str) -> Result<ContextSpec, AllocError>
     })
 }
 
-fn plan(
+/// A plan with an SL source and a second one, two exports of the second and an entry of the first.
+pub fn plan(
     alloc: Global,
     second: Language,
     names: [&str; 2],
@@ -79,10 +77,21 @@ fn shown(alloc: Global, program: &Program) -> Result<String, AllocError> {
     Ok(text)
 }
 
-fn source(rt: &impl Abort, alloc: Global, text: &str) -> Result<Source, Fail> {
-    let bytes = Vec::from_slice(alloc, text.as_bytes())?;
-    assert!(rt; bytes.len() <= MOST_BYTES);
-    Ok(Source::new(alloc, String::from_str(alloc, "t")?, bytes)?)
+/// The program of two sources, or the first refusal.
+pub fn loaded(
+    rt: &impl Abort,
+    alloc: Global,
+    sources: [&str; 2],
+    plan: &Plan,
+) -> Result<Result<Program, Stop<LoadRefusal>>, Fail>
+    requires sound { IsSound plan.now }
+    requires two { length plan.now.sources ≡ 2 }
+{
+    let sources = [
+        source(rt, alloc, sources[0])?,
+        source(rt, alloc, sources[1])?,
+    ];
+    Ok(load(alloc, sources.as_slice(), plan))
 }
 
 fn answer(rt: &impl Abort, alloc: Global, second: &str, plan: &Plan) -> Result<String, Fail>
@@ -90,8 +99,7 @@ fn answer(rt: &impl Abort, alloc: Global, second: &str, plan: &Plan) -> Result<S
     requires two { length plan.now.sources ≡ 2 }
 {
     let first = "function f() { } function f() { g(); } function main() { f(); println(h()); z; }";
-    let sources = [source(rt, alloc, first)?, source(rt, alloc, second)?];
-    match load(alloc, sources.as_slice(), plan) {
+    match loaded(rt, alloc, [first, second], plan)? {
         Ok(program) => Ok(shown(alloc, &program)?),
         Err(Stop::Refused(refusal)) => {
             let (source, cause) = (refusal.source, refusal.cause);

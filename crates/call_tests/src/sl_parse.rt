@@ -1,7 +1,8 @@
-//! Sources with what the names in their trees mean, by hand from the rules of scopes.
-use crate::build::parse;
-use pd_sections::{MOST_BYTES, Source, Stop};
+//! `pd_sl_parse`: sources with what the names in their trees mean, by hand from the rules of scopes.
+use crate::fixtures::source;
+use pd_sections::Stop;
 use pd_sl_lex::lex;
+use pd_sl_parse::parse;
 use pd_tree::{Addition, Kind, Meaning};
 use std::alloc::{AllocError, Global};
 use std::process::Abort;
@@ -30,9 +31,7 @@ fn shown(alloc: Global, additions: &[Addition]) -> Result<String, AllocError> {
 }
 
 fn answer(rt: &impl Abort, alloc: Global, text: &str) -> Result<String, Fail> {
-    let bytes = Vec::from_slice(alloc, text.as_bytes())?;
-    assert!(rt; bytes.len() <= MOST_BYTES);
-    let source = Source::new(alloc, String::from_str(alloc, "t")?, bytes)?;
+    let source = source(rt, alloc, text)?;
     let tokens = lex(alloc, &source)?;
     match parse(alloc, &source, 0, &tokens, 65_536) {
         Ok(tree) => Ok(shown(alloc, tree.additions())?),

@@ -3,8 +3,8 @@ use Rattle.pd_core.specs.Examples.{one_binding}
 use Rattle.pd_core.specs.Tokens.{Holder}
 use Rattle.pd_core.specs.declared.view.View.{View}
 use Rattle.pd_core.specs.Views.{halved}
-use Rattle.pd_core.proofs.Examples.{split_first, split_second, split_third, is_known, known_halved, known_new, share_new, share_thrice}
-use Rattle.pd_core.proofs.tests.round.Goals as goal
+use Rattle.call_tests.proofs.CoreExamples.{split_first, split_second, split_third, is_known, known_halved, known_new, share_new, share_thrice}
+use Rattle.call_tests.proofs.core_words.round.Goals as goal
 
 pub split-q-requires : goal.split-q-requires
 split-q-requires generic c =

@@ -6,8 +6,8 @@ use Rattle.pd_core.specs.Words.{disposed, live, bit_of}
 use Rattle.pd_core.specs.Views.{halved, newcomer}
 use Rattle.pd_core.specs.Kinds.{after, load_node, load_binding, draw, clear_bit, set_bit, set_attached, set_disposed, count_answer, load_row, set_summary, set_off, clear_off}
 use Rattle.pd_core.proofs.Admitted.{inside}
-use Rattle.pd_core.proofs.Examples.{splits, may_split, may_bit, may_summary, may_attach, may_draw, may_miss, bit_there, may_row, may_look, may_clear, may_answer, ask}
-use Rattle.pd_core.proofs.tests.steps.Goals as goal
+use Rattle.call_tests.proofs.CoreExamples.{splits, may_split, may_bit, may_summary, may_attach, may_draw, may_miss, bit_there, may_row, may_look, may_clear, may_answer, ask}
+use Rattle.call_tests.proofs.core_words.steps.Goals as goal
 
 pub split-q-requires : goal.split-q-requires
 split-q-requires c = (c.requires.0, splits _ _ _ _ c.requires.1 c.requires.2 may_split)
