@@ -28,6 +28,8 @@ mod sl_parse;
 #[cfg(test)]
 mod sl_read;
 #[cfg(test)]
+mod top;
+#[cfg(test)]
 mod tree;
 #[cfg(test)]
 mod turn;

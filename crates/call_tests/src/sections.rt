@@ -1,7 +1,14 @@
 //! `pd_sections`: places of a source, what is no text, and tokens by their numbers.
 use crate::fixtures::source_of;
-use pd_sections::{NotUtf8, Section, Stop, Token, TokenKind, Tokens};
+use pd_sections::{NotUtf8, Section, Source, Stop, Token, TokenKind, Tokens};
+use std::process::Abort;
 use std::test::Fail;
+
+fn expect_place(rt: &impl Abort, source: &Source, at: u32, line: u32, column: u32) {
+    assert!(rt; at as usize <= source.bytes().len());
+    assert_eq!(rt; source.line_of(at), line, "line of {at}");
+    assert_eq!(rt; source.column_of(at), column, "column of {at}");
+}
 
 #[test]
 fn places_have_lines_columns_and_texts(rt: HostRuntime) -> Result<(), Fail> {
@@ -21,9 +28,7 @@ fn places_have_lines_columns_and_texts(rt: HostRuntime) -> Result<(), Fail> {
         (9, 5, 2),
     ];
     for (at, line, column) in places {
-        assert!(rt; at as usize <= source.bytes().len());
-        assert_eq!(rt; source.line_of(at), line, "line of {at}");
-        assert_eq!(rt; source.column_of(at), column, "column of {at}");
+        expect_place(&rt, &source, at, line, column);
     }
     let section = Section {
         source: 0,

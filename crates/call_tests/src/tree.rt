@@ -3,8 +3,9 @@ use crate::fixtures::text;
 use crate::load::{loaded, plan};
 use pd_plan::Language;
 use pd_sections::Section;
-use pd_tree::{Builder, Kind, Meaning, Operator};
+use pd_tree::{Builder, Kind, Meaning, Operator, Program};
 use pd_values::{Items, NodeId, Tag};
+use std::process::Abort;
 use std::test::Fail;
 
 /// Three nodes of `function f() { 1; }`.
@@ -31,44 +32,72 @@ const SL: &str =
 
 const PL0: &str = "procedure p; ; if odd 1 + 1 then .";
 
+/// A node's kind with what its name means, as far as the rows below tell kinds apart.
+fn label(kind: &Kind, meaning: Meaning) -> &'static str {
+    match kind {
+        Kind::SlCall => "call",
+        Kind::SlWhile => "while",
+        Kind::SlDebugger => "debugger",
+        Kind::PlOdd => "odd",
+        Kind::PlBinary(Operator::Add) => "sum",
+        Kind::SlName(_) => match meaning {
+            Meaning::Local { up: 0, slot: 3 } => "local",
+            Meaning::Nothing => "nothing",
+            _ => "name",
+        },
+        _ => "other",
+    }
+}
+
+fn expect_label(rt: &impl Abort, program: &Program, n: u32, expected: &str) {
+    assert!(rt; n < program.nodes());
+    let node = NodeId(n);
+    assert_eq!(rt;
+        label(program.kind(node), program.meaning(node)),
+        expected,
+        "node {n}"
+    );
+}
+
+fn expect_tags(rt: &impl Abort, program: &Program, n: u32, expected: &[Tag]) {
+    assert!(rt; n < program.nodes());
+    assert_eq!(rt; program.tags(NodeId(n)), expected, "node {n}");
+}
+
+fn expect_has(rt: &impl Abort, program: &Program, n: u32, tag: Tag, expected: bool) {
+    assert!(rt; n < program.nodes());
+    assert_eq!(rt; program.has(NodeId(n), tag), expected, "node {n}");
+}
+
+fn expect_rows(rt: &impl Abort, program: &Program) {
+    for (n, kind, tags) in [
+        (
+            2,
+            "call",
+            [Tag::Expression, Tag::Call, Tag::Statement].as_slice(),
+        ),
+        (4, "local", [Tag::Expression, Tag::ReadVariable].as_slice()),
+        (5, "while", [].as_slice()),
+        (20, "odd", [Tag::Expression, Tag::Statement].as_slice()),
+        (21, "sum", [Tag::Expression].as_slice()),
+    ] {
+        expect_label(rt, program, n, kind);
+        expect_tags(rt, program, n, tags);
+    }
+    for (n, kind, tag, has) in [
+        (8, "debugger", Tag::AlwaysHalt, true),
+        (13, "nothing", Tag::ReadVariable, false),
+    ] {
+        expect_label(rt, program, n, kind);
+        expect_has(rt, program, n, tag, has);
+    }
+}
+
 /// Rows of the tables of kinds, by nodes of two sources.
 #[test]
 fn tags_by_the_tables(rt: HostRuntime) -> Result<(), Fail> {
     let plan = plan(rt.alloc(), Language::Pl0, ["g", "h"], ["p", "p"], "main")?;
     let program = loaded(&rt, rt.alloc(), [SL, PL0], &plan)??;
-    assert!(rt; program.nodes() == 25);
-    let (call, local, repeated, halt, none) = (
-        NodeId(2),
-        NodeId(4),
-        NodeId(5),
-        NodeId(8),
-        NodeId(13),
-    );
-    let (odd, sum) = (NodeId(20), NodeId(21));
-    assert!(rt; matches!(program.kind(call), Kind::SlCall));
-    assert!(rt; matches!(program.kind(local), Kind::SlName(_)));
-    assert!(rt; matches!(program.meaning(local), Meaning::Local { up: 0, slot: 3 }));
-    assert!(rt; matches!(program.kind(repeated), Kind::SlWhile));
-    assert!(rt; matches!(program.kind(halt), Kind::SlDebugger));
-    assert!(rt; matches!(program.kind(none), Kind::SlName(_)));
-    assert!(rt; matches!(program.meaning(none), Meaning::Nothing));
-    assert!(rt; matches!(program.kind(odd), Kind::PlOdd));
-    assert!(rt; matches!(program.kind(sum), Kind::PlBinary(Operator::Add)));
-    assert_eq!(rt;
-        program.tags(call),
-        [Tag::Expression, Tag::Call, Tag::Statement].as_slice()
-    );
-    assert_eq!(rt; program.tags(repeated).len(), 0);
-    assert_eq!(rt;
-        program.tags(odd),
-        [Tag::Expression, Tag::Statement].as_slice()
-    );
-    assert_eq!(rt; program.tags(sum), [Tag::Expression].as_slice());
-    assert_eq!(rt;
-        program.tags(local),
-        [Tag::Expression, Tag::ReadVariable].as_slice()
-    );
-    assert!(rt; program.has(halt, Tag::AlwaysHalt));
-    assert!(rt; !program.has(none, Tag::ReadVariable));
+    expect_rows(&rt, &program);
     Ok(())
 }
