@@ -1,8 +1,7 @@
-use Rattle.std.proofs.Common.{◌≡◌, ◌∙◌, ◌==◌, ◌<◌, ◌≤◌, ◌||◌, ◌&&◌, ℕ, List, [], Bool, length, ap, sym, subst, arith, rules}
-use Rattle.std.specs.Prelude.{nat_lt, slice_index_or}
+use Rattle.std.proofs.Common.{◌≡◌, ◌∙◌, ◌==◌, ◌<◌, ◌||◌, ◌&&◌, ℕ, List, [], Bool, ap, sym, subst, arith, rules}
+use Rattle.std.specs.Prelude.{slice_index_or}
 use Rattle.std.specs.List.{All, list_any}
 use Rattle.pd_board.proofs.PlainLemmas.{row_read}
-use Rattle.pd_shared.specs.Matching.{stands}
 use Rattle.pd_shared.proofs.MatchingLemmas.{all_within, next_row, all_rows, no_rows}
 use Rattle.pd_shared.proofs.matching.Matching.of.Goals as goal
 
