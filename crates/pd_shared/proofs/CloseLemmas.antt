@@ -34,7 +34,7 @@ use Rattle.pd_core.proofs.Seats.{drawn_none, firsts_none, disposals_none, misses
 use Rattle.pd_core.proofs.Whole.{whole_total}
 use Rattle.pd_shared.specs.declared.token.Token.{Token}
 use Rattle.pd_shared.specs.declared.sights.Sights.{Sights}
-use Rattle.pd_shared.specs.Journal.{Entries}
+use Rattle.pd_board.specs.Journal.{Entries}
 use Rattle.pd_shared.specs.Book.{book_of}
 use Rattle.pd_shared.specs.Tied.{AreDeeds, IsKnown, IsTied}
 use Rattle.pd_shared.specs.Held.{IsHeld}

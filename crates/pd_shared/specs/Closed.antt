@@ -19,7 +19,7 @@ use Rattle.pd_core.specs.Words.{attached, disposed, sum_in}
 use Rattle.pd_core.specs.Runs.{IsLast}
 use Rattle.pd_shared.specs.declared.token.Token.{Token}
 use Rattle.pd_shared.specs.declared.sights.Sights.{Sights}
-use Rattle.pd_shared.specs.Journal.{Entries}
+use Rattle.pd_board.specs.Journal.{Entries}
 use Rattle.pd_shared.specs.Sitting.{number_for}
 use Rattle.pd_shared.specs.Left.{DidLeave}
 use Rattle.pd_shared.specs.Book.{known_at}

@@ -1,6 +1,6 @@
 use Rattle.std.proofs.Common.{◌++◌, ◌∷◌, sym, subst}
 use Rattle.pd_core.specs.declared.view.View.{View}
-use Rattle.pd_shared.specs.Journal.{Entries}
+use Rattle.pd_board.specs.Journal.{Entries}
 use Rattle.pd_shared.specs.Sitting.{Sitting}
 use Rattle.pd_shared.specs.Tied.{AreDeeds}
 use Rattle.pd_core.specs.Tokens.{Hub}
