@@ -1,5 +1,5 @@
 -- Definitions, which public contracts cite:
--- Journal, Book, Tied, Sitting, Took, Steps, Loading, Held, Merged, Left and Closed.
+-- Book, Tied, Sitting, Took, Steps, Loading, Costs, Held, Merged, Left and Closed.
 -- For the proofs alone: First.
 pub mod Book
 pub mod Tied
