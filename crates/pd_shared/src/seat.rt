@@ -49,7 +49,7 @@ impl<'b> Seat<'b> {
 }
 
 impl<'b> Seat<'b> {
-    ghost use Rattle.std.specs.Prelude.{◌≤◌, ◌<◌, ◌++◌, ◌∷◌, ◌↔◌, true, false, List, IfOk, IfErr, OnOk, OnErr, IsTrue, IsFalse};
+    ghost use Rattle.std.specs.Prelude.{◌≤◌, ◌<◌, ◌^◌, ◌++◌, ◌∷◌, ◌↔◌, true, false, List, IfOk, IfErr, OnOk, OnErr, IsTrue, IsFalse};
     ghost use Rattle.pd_board.specs.Standing.{NothingDue};
     ghost use Rattle.pd_core.specs.Runs.{MaySplit};
     ghost use Rattle.pd_shared.specs.declared.sights.Sights.{Sights};
@@ -103,7 +103,8 @@ impl<'b> Seat<'b> {
 
     /// Whether all shares of the seats are back here, so that no other seat is left on the board.
     pub fn is_whole(&self) -> bool
-        ensures { IsTrue result → IsWhole self.now.token }
+        ensures whole { IsTrue result → IsWhole self.now.token }
+        ensures not_whole { IsFalse result → self.now.token.seats < 2 ^ 32 }
     {
         ALL_SEATS <= self.token.seats
     }
