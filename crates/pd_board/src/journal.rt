@@ -1,5 +1,5 @@
 //! What a board keeps of its draws, passes and acts.
-ghost use Rattle.std.specs.Prelude.{◌≡◌, ◌+◌, ◌-◌, ◌<◌, ◌≤◌, [], ◌∷◌, ◌++◌, OnOk, OnErr, vec_len, vec_capacity};
+ghost use Rattle.std.specs.Prelude.{◌≡◌, ◌+◌, ◌-◌, ◌<◌, ◌≤◌, [], ◌∷◌, ◌++◌, IsOk, OnOk, OnErr, vec_len, vec_capacity};
 ghost use Rattle.pd_board.specs.Journal.{empty};
 
 use crate::answers::{ActResult, Passed, Sight};
@@ -41,9 +41,10 @@ impl Journal {
         }
     }
 
-    /// Makes room for so many entries.
+    /// Makes room for so many entries. Where there is that room already, it takes no memory and doesn't fail.
     pub fn reserve(&mut self, steps: u32) -> Result<(), AllocError>
         ensures ok { OnOk result (steps ≤ self.new.spare) }
+        ensures enough { steps ≤ self.old.spare → IsOk result }
         ensures err { OnErr result (self.new ≡ self.old) }
         ensures rest { self.new ≡ record self.old { spare = self.new.spare } }
     {

@@ -1,5 +1,5 @@
 //! The board of one thread.
-ghost use Rattle.std.specs.Prelude.{◌≡◌, ℕ, ◌+◌, ◌<◌, ◌≤◌, ◌^◌, ◌↔◌, if◌then◌else◌, IfOk, IsTrue, length, slice_index, vec_len};
+ghost use Rattle.std.specs.Prelude.{◌≡◌, ℕ, ◌+◌, ◌<◌, ◌≤◌, ◌^◌, ◌↔◌, ◌==◌, ◌&&◌, not, false, if◌then◌else◌, IfOk, IsTrue, length, slice_index, vec_len};
 ghost use Rattle.pd_board.specs.Bound.{IsWithin, OnlyInRows, LiveStand};
 ghost use Rattle.pd_board.specs.Kept.{TellsAll};
 ghost use Rattle.pd_board.specs.Sessions.{IsRead, HasShares};
@@ -195,6 +195,9 @@ fn copy_of(alloc: Global, table: &MatchTable) -> Result<MatchTable, AllocError>
 
 impl Board for PlainBoard {
     ghost use Rattle.pd_board.specs.Plain.{standing_of};
+    ghost use Rattle.pd_board.specs.Standing.{bindings};
+    ghost use Rattle.pd_board.specs.Kept.{upto};
+    ghost use Rattle.pd_board.specs.NodeBits.{stands};
 
     ghost standing = { standing_of };
 
@@ -246,7 +249,17 @@ impl Board for PlainBoard {
         });
     }
 
-    fn sweep(&mut self, n: NodeId, b: u32) {
+    fn sweep(&mut self, n: NodeId, b: u32)
+        requires binding { b < bindings (standing_of self.old) }
+        requires node { n < (standing_of self.old).nodes }
+        requires gone { (standing_of self.old).known b ≡ Known.Disposed }
+        requires room { (standing_of self.old).cleared + 1 < 2 ^ 60 }
+        // It is this bit that is cleared, and no other.
+        ensures bits { (m c : ℕ) → stands self.new.bits m c ≡ (not (m == n && c == b) && stands self.old.bits m c) }
+        ensures due { (c : ℕ) → (standing_of self.new).due c ≡ (not (c == b) && (standing_of self.old).due c) }
+        ensures cleared { (standing_of self.new).cleared ≡ (standing_of self.old).cleared + 1 }
+        ensures rest { standing_of self.new ≡ record (standing_of self.old) { due = (standing_of self.new).due; cleared = (standing_of self.new).cleared } }
+    {
         self.bits.clear(n.0, b);
         self.due.remove(b);
         self.cleared += 1;
@@ -286,18 +299,36 @@ impl Board for PlainBoard {
         number
     }
 
-    fn answers(&mut self, session: u32) -> u32 {
+    fn answers(&mut self, session: u32) -> u32
+        requires session { session < (standing_of self.old).sessions }
+        requires room { (standing_of self.old).answer_loads session + 1 < 2 ^ 32 }
+        // On a board of one thread these are the ones that this board took, and no older count of them.
+        ensures all { (standing_of self.old).numbers session ≡ upto result }
+        ensures no_less { (standing_of self.old).last_answers session ≤ result }
+        ensures last { (standing_of self.new).last_answers session ≡ result }
+        ensures other { (s : ℕ) → (s == session) ≡ false → (standing_of self.new).last_answers s ≡ (standing_of self.old).last_answers s }
+        ensures loads { (s : ℕ) → (standing_of self.new).answer_loads s ≡ (standing_of self.old).answer_loads s + (if s == session then 1 else 0) }
+        ensures rest { standing_of self.new ≡ record (standing_of self.old) { last_answers = (standing_of self.new).last_answers; answer_loads = (standing_of self.new).answer_loads } }
+    {
         let word = &mut self.sessions[session as usize];
         word.loads += 1;
         word.last = word.taken;
-        word.taken
+        word.last
     }
 
     fn ended(&mut self) {
         self.ended = true;
     }
 
-    fn all_ended(&mut self) -> bool {
+    fn all_ended(&mut self) -> bool
+        requires room { (standing_of self.old).end_loads + 1 < 2 ^ 32 }
+        // On a board of one thread the context that has ended, if one has, is this board's.
+        ensures ends { (standing_of self.new).last_ends ≡ (if (standing_of self.old).ended then 1 else 0) }
+        ensures all { IsTrue result ↔ ((standing_of self.old).contexts ≤ (standing_of self.new).last_ends) }
+        ensures no_less { (standing_of self.old).last_ends ≤ (standing_of self.new).last_ends }
+        ensures loads { (standing_of self.new).end_loads ≡ (standing_of self.old).end_loads + 1 }
+        ensures rest { standing_of self.new ≡ record (standing_of self.old) { last_ends = (standing_of self.new).last_ends; end_loads = (standing_of self.new).end_loads } }
+    {
         self.end_loads += 1;
         self.last_ends = u32::from(self.ended);
         self.contexts <= self.last_ends
