@@ -7,6 +7,7 @@ use Rattle.pd_values.specs.declared.value.Value.TheVariants.{Bool as Truth, Null
 use Rattle.pd_machine.specs.declared.event.Cause.{Cause}
 use Rattle.pd_machine.specs.declared.event.Cause.TheVariants.{Returning, Breaking, Continuing, Faulting, Unwinding}
 use Rattle.pd_machine.specs.declared.run.Frame.{Frame}
+use Rattle.pd_machine.specs.declared.run.Mode.{Mode}
 use Rattle.pd_machine.specs.declared.run.Mode.TheVariants.{Coming, Entering}
 use Rattle.pd_machine.specs.declared.run.Pending.TheVariants.{RightSide, Testing}
 use Rattle.pd_meaning.specs.Meaning.{popped}
@@ -25,6 +26,11 @@ is_tagged (t ∷ ts) = true
 abbrev pub value_of : NodeResult → Result Value NodeResult
 value_of (Gives a) = Ok a
 value_of r = Err r
+
+-- a result is to go to what waits
+abbrev pub IsComing : Mode → Type 0
+IsComing (Coming r) = Unit {0}
+IsComing _ = ⊥
 
 -- a result other than a value
 abbrev pub IsOther : NodeResult → Type 0

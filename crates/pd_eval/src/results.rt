@@ -6,13 +6,13 @@ ghost use Rattle.pd_machine.specs.declared.event.Verdict.TheVariants.{Go};
 ghost use Rattle.pd_machine.specs.declared.run.Mode.TheVariants.{Coming, Entering};
 ghost use Rattle.pd_machine.specs.declared.run.NodeResult.TheVariants.{Gives};
 ghost use Rattle.pd_machine.specs.declared.run.Pending.TheVariants.{Leaving, Testing, Turning};
-ghost use Rattle.pd_meaning.specs.Meaning.{caught, ends, exit};
+ghost use Rattle.pd_meaning.specs.Meaning.{caught, ends, exit, popped};
 ghost use Rattle.pd_meaning.specs.Machine.{by_truth, coming_turn, machine, other_came, settled, value_came};
 ghost use Rattle.pd_meaning.specs.Steps.{Does};
 ghost use Rattle.pd_meaning.specs.Telling.{DoesTelling, due_at, due_on_value};
 ghost use Rattle.pd_eval.specs.Tagged.{IsOther, call_ended, cause_of, jump_came, side_came, value_of};
 
-use crate::starting::next_part;
+use crate::starting::{give_null, next_part};
 use pd_machine::{Cause, EventKind, Frame, Machine, Mode, NodeResult, Pending, Turn};
 use pd_tree::Program;
 use pd_values::{Fault, Items, NodeId, Value};
@@ -74,15 +74,15 @@ fn value_comes(
             Ok(Turn::Quiet)
         }
         Pending::Catching => {
-            m.set_mode(Mode::Coming(NodeResult::Gives(value)));
+            pass(m, value);
             Ok(Turn::Quiet)
         }
         Pending::Choosing(n, block) => {
-            branch(m, &value, n, Mode::Entering(block), null());
+            chosen(m, &value, n, block);
             Ok(Turn::Quiet)
         }
         Pending::ChoosingBetween(n, block, other) => {
-            branch(m, &value, n, Mode::Entering(block), Mode::Entering(other));
+            chosen_between(m, &value, n, block, other);
             Ok(Turn::Quiet)
         }
         Pending::Testing(n, condition, block) => {
@@ -98,19 +98,54 @@ fn value_comes(
             Ok(Turn::Quiet)
         }
         Pending::RightSide(n) => {
-            branch(m, &value, n, truth(true), truth(false));
+            right_came(m, &value, n);
             Ok(Turn::Quiet)
         }
         Pending::InCall(_, _) => {
-            m.pop_frame();
-            m.set_mode(Mode::Coming(NodeResult::Gives(value)));
+            call_gave(m, value);
             Ok(Turn::Quiet)
         }
         Pending::Dropping => {
-            m.set_mode(null());
+            give_null(m);
             Ok(Turn::Quiet)
         }
     }
+}
+
+/// A value is passed on.
+fn pass(m: &mut Machine, value: Value)
+    ensures { Does (λ stack s. machine (Coming (Gives value)) stack s) m.old m.new }
+{
+    m.set_mode(Mode::Coming(NodeResult::Gives(value)));
+}
+
+/// A call has its value: its frame is removed.
+fn call_gave(m: &mut Machine, value: Value)
+    ensures { Does (λ stack s. machine (Coming (Gives value)) stack (popped s)) m.old m.new }
+{
+    m.pop_frame();
+    m.set_mode(Mode::Coming(NodeResult::Gives(value)));
+}
+
+/// The condition of an `if` with one block has its value.
+fn chosen(m: &mut Machine, value: &Value, n: NodeId, block: NodeId)
+    ensures { Does (λ stack s. by_truth n value.now (machine (Entering block) stack s) (machine (Coming (Gives Null)) stack s) stack s) m.old m.new }
+{
+    branch(m, value, n, Mode::Entering(block), null());
+}
+
+/// The condition of an `if` with two blocks has its value.
+fn chosen_between(m: &mut Machine, value: &Value, n: NodeId, block: NodeId, other: NodeId)
+    ensures { Does (λ stack s. by_truth n value.now (machine (Entering block) stack s) (machine (Entering other) stack s) stack s) m.old m.new }
+{
+    branch(m, value, n, Mode::Entering(block), Mode::Entering(other));
+}
+
+/// The right side of an `||` or an `&&` has its value.
+fn right_came(m: &mut Machine, value: &Value, n: NodeId)
+    ensures { Does (λ stack s. by_truth n value.now (machine (Coming (Gives (Truth true))) stack s) (machine (Coming (Gives (Truth false))) stack s) stack s) m.old m.new }
+{
+    branch(m, value, n, truth(true), truth(false));
 }
 
 /// The values of parts, with one more.
@@ -228,6 +263,7 @@ fn left_came(
 }
 
 /// A result other than a value comes to what waits.
+#[inline(never)]
 #[tactic(auto, using(crate::proofs::Came::jump_is, crate::proofs::Came::ended_is))]
 fn other_comes(
     alloc: Global,

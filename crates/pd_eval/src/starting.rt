@@ -1,8 +1,11 @@
 //! A node that was entered begins its work.
 ghost use Rattle.std.specs.Prelude.{◌≡◌, ◌-◌, ◌∷◌, ◌<◌, [], length, slice_get, IfOk, IsFalse, IsSome, IsTrue};
 ghost use Rattle.pd_tree.specs.Program.{node_at};
-ghost use Rattle.pd_meaning.specs.Machine.{choice_begun, combining, either_begun, last_begun, loop_begun, parts_begun, starting_turn};
-ghost use Rattle.pd_machine.specs.declared.run.Pending.TheVariants.{Catching};
+ghost use Rattle.pd_meaning.specs.Machine.{choice_begun, combining, either_begun, last_begun, loop_begun, machine, parts_begun, starting_turn};
+ghost use Rattle.pd_machine.specs.declared.run.Pending.TheVariants.{Catching, Operand};
+ghost use Rattle.pd_machine.specs.declared.run.Mode.TheVariants.{Coming, Entering};
+ghost use Rattle.pd_machine.specs.declared.run.NodeResult.TheVariants.{Gives};
+ghost use Rattle.pd_values.specs.declared.value.Value.TheVariants.{Null};
 ghost use Rattle.pd_meaning.specs.Steps.{Does};
 ghost use Rattle.pd_pl0_step.specs.Pl0.{IsPl0};
 ghost use Rattle.pd_sl_step.specs.Sl.{IsSl};
@@ -82,17 +85,35 @@ pub fn next_part(
     ensures { IfOk result (λ _. Does (λ stack s. parts_begun program.now n (node_at program.now n).children i values stack s) m.old m.new) }
 {
     if n.0 >= program.nodes() {
-        m.set_mode(Mode::Coming(NodeResult::Gives(Value::Null)));
+        give_null(m);
         return Ok(());
     }
     match part_at(program.children(n), i) {
-        Some(part) => {
-            m.push(Pending::Operand(n, values, i + 1))?;
-            m.set_mode(Mode::Entering(part));
-            Ok(())
-        }
+        Some(part) => enter_part(m, n, values, i + 1, part),
         None => combine(alloc, m, program, n, values),
     }
+}
+
+/// A part of a node is entered, where the values of the parts before it wait.
+fn enter_part(
+    m: &mut Machine,
+    n: NodeId,
+    values: Items<Value>,
+    next: usize,
+    part: NodeId,
+) -> Result<(), AllocError>
+    ensures { IfOk result (λ _. Does (λ stack s. machine (Entering part) (Operand n values next ∷ stack) s) m.old m.new) }
+{
+    m.push(Pending::Operand(n, values, next))?;
+    m.set_mode(Mode::Entering(part));
+    Ok(())
+}
+
+/// A node comes to NULL.
+pub fn give_null(m: &mut Machine)
+    ensures { Does (λ stack s. machine (Coming (Gives Null)) stack s) m.old m.new }
+{
+    m.set_mode(Mode::Coming(NodeResult::Gives(Value::Null)));
 }
 
 fn part_at(parts: &[NodeId], i: usize) -> Option<NodeId>

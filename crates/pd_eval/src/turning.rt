@@ -5,6 +5,7 @@ ghost use Rattle.pd_machine.specs.Held.{IsOver};
 ghost use Rattle.pd_machine.specs.declared.event.Verdict.TheVariants.{Go};
 ghost use Rattle.pd_meaning.specs.Machine.{mode_turn, starting_turn};
 ghost use Rattle.pd_meaning.specs.Telling.{DoesTelling, due_at};
+ghost use Rattle.pd_eval.specs.Tagged.{IsComing};
 
 use crate::entering::enter;
 use crate::results::come;
@@ -21,10 +22,29 @@ pub fn turn(alloc: Global, m: &mut Machine, program: &Program) -> Result<Turn, A
     requires going { IsOver m.old → ⊥ }
     ensures { IfOk result (λ t. DoesTelling program.now (λ v e. due_at program.now v m.old.mode m.old.stack m.old.left e) (λ stack s. mode_turn program.now [] m.old.mode stack s) m.old m.new t) }
 {
+    match m.mode() {
+        Mode::Entering(n) => {
+            let n = *n;
+            enter(m, program, n)
+        }
+        Mode::Starting(n) => {
+            let n = *n;
+            begin(alloc, m, program, n)
+        }
+        Mode::Coming(_) => arrive(alloc, m, program),
+    }
+}
+
+/// A result goes to what waits for it.
+fn arrive(alloc: Global, m: &mut Machine, program: &Program) -> Result<Turn, AllocError>
+    requires room { m.old.told + 1 < 2 ^ 32 }
+    requires going { IsOver m.old → ⊥ }
+    requires comes { IsComing m.old.mode }
+    ensures { IfOk result (λ t. DoesTelling program.now (λ v e. due_at program.now v m.old.mode m.old.stack m.old.left e) (λ stack s. mode_turn program.now [] m.old.mode stack s) m.old m.new t) }
+{
     match m.take_mode() {
-        Mode::Entering(n) => enter(m, program, n),
-        Mode::Starting(n) => begin(alloc, m, program, n),
         Mode::Coming(came) => come(alloc, m, program, came),
+        _ => unreachable!(),
     }
 }
 

@@ -49,10 +49,24 @@ pub fn serve<W: Watcher>(
     ensures fixed { W.fixed w.new ≡ W.fixed w.old }
 {
     let verdict = w.event(&event, &m.scene(event.node))?;
-    if counts(program, &event) {
-        obey(m, verdict);
-    }
+    heed(m, program, &event, verdict);
     Ok(())
+}
+
+/// The verdict on the event that was just told is obeyed, where verdicts count on that event. The tags of the
+/// event's node are not asked for where the run goes on in any case.
+#[tactic(auto, using(crate::proofs::Entered::goes_on))]
+fn heed(m: &mut Machine, program: &Program, event: &Event, verdict: Verdict)
+    ensures { HasObeyed program.now event.now verdict m.old m.new }
+{
+    match verdict {
+        Verdict::Go => {}
+        verdict => {
+            if counts(program, event) {
+                obey(m, verdict);
+            }
+        }
+    }
 }
 
 /// Whether a verdict counts on an event.

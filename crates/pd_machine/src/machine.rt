@@ -87,6 +87,13 @@ impl Machine {
         }
     }
 
+    /// What is done next.
+    pub fn mode(&self) -> &Mode
+        ensures { result.now ≡ self.now.mode }
+    {
+        &self.mode
+    }
+
     /// Takes out what is done next, for a turn that puts in what is done after it.
     pub fn take_mode(&mut self) -> Mode
         ensures mode { result ≡ self.old.mode }
@@ -99,6 +106,7 @@ impl Machine {
     }
 
     /// Says what is done next.
+    #[inline(always)]
     pub fn set_mode(&mut self, mode: Mode)
         ensures { self.new ≡ record self.old { mode = mode } }
     {
@@ -106,6 +114,7 @@ impl Machine {
     }
 
     /// Lets this wait on top.
+    #[inline(always)]
     pub fn push(&mut self, pending: Pending) -> Result<(), AllocError>
         ensures { IfOk result (λ _. self.new ≡ record self.old { stack = pending ∷ self.old.stack }) }
     {

@@ -18,3 +18,15 @@ returns-in-LeftSide c =
       c.in_ok-left_came-in-LeftSide.ensures.2,
       tt,
     )
+
+pub returns-in-Catching : goal.returns-in-Catching
+returns-in-Catching c =
+    rw c.in-Catching.is ((λ es k. c.pass.ensures.0 es), (λ v e. refl), c.pass.ensures.1, c.pass.ensures.2, tt)
+
+pub returns-in-InCall : goal.returns-in-InCall
+returns-in-InCall c =
+    rw c.in-InCall.is ((λ es k. c.call_gave.ensures.0 es), (λ v e. refl), c.call_gave.ensures.1, c.call_gave.ensures.2, tt)
+
+pub returns : goal.returns
+returns c =
+    rw c.in-Dropping.is ((λ es k. c.give_null.ensures.0 es), (λ v e. refl), c.give_null.ensures.1, c.give_null.ensures.2, tt)
