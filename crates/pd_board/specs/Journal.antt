@@ -1,5 +1,4 @@
--- For the code's proofs: no public contract needs it.
--- What a board keeps of its draws, passes and acts.
+-- Definition: what a board keeps of its draws, passes and acts.
 use Rattle.std.specs.Prelude.{ℕ, List, []}
 use Rattle.pd_board.specs.declared.answers.ActResult.{ActResult}
 use Rattle.pd_board.specs.declared.answers.Sight.{Sight}

@@ -8,7 +8,7 @@ use std::marker::Model;
 
 /// Lists with room for `spare` further entries each.
 #[derive(Drop)]
-pub(crate) struct Journal {
+pub struct Journal {
     sights: Vec<Sight>,
     sight_loads: Vec<u32>,
     passes: Vec<Passed>,
@@ -29,7 +29,7 @@ impl Model for Journal {
 
 impl Journal {
     /// Nothing is kept, and there is room for nothing. It takes no memory.
-    pub(crate) fn new(alloc: Global) -> Journal
+    pub fn new(alloc: Global) -> Journal
         ensures { result ≡ empty }
     {
         Journal {
@@ -42,7 +42,7 @@ impl Journal {
     }
 
     /// Makes room for so many entries.
-    pub(crate) fn reserve(&mut self, steps: u32) -> Result<(), AllocError>
+    pub fn reserve(&mut self, steps: u32) -> Result<(), AllocError>
         ensures ok { OnOk result (steps ≤ self.new.spare) }
         ensures err { OnErr result (self.new ≡ self.old) }
         ensures rest { self.new ≡ record self.old { spare = self.new.spare } }
@@ -59,21 +59,42 @@ impl Journal {
     }
 
     /// The sights in order.
-    pub(crate) fn sights(&self) -> &[Sight]
+    pub fn sights(&self) -> &[Sight]
         ensures { result.now ≡ self.now.sights }
     {
         self.sights.as_slice()
     }
 
+    /// For each sight the number of loads of nodes before it.
+    pub fn sight_loads(&self) -> &[u32]
+        ensures { result.now ≡ self.now.sight_loads }
+    {
+        self.sight_loads.as_slice()
+    }
+
+    /// The passes in order.
+    pub fn passes(&self) -> &[Passed]
+        ensures { result.now ≡ self.now.passes }
+    {
+        self.passes.as_slice()
+    }
+
+    /// The answers of acts in order.
+    pub fn replies(&self) -> &[ActResult]
+        ensures { result.now ≡ self.now.replies }
+    {
+        self.replies.as_slice()
+    }
+
     /// For how many further entries there is room.
-    pub(crate) fn spare(&self) -> u32
+    pub fn spare(&self) -> u32
         ensures { result ≡ self.now.spare }
     {
         self.spare
     }
 
     /// Keeps a sight, and the number of loads of nodes before it.
-    pub(crate) fn see(&mut self, sight: Sight, loads: u32)
+    pub fn see(&mut self, sight: Sight, loads: u32)
         requires { 0 < self.old.spare }
         ensures { self.new ≡ record self.old { sights = self.old.sights ++ sight ∷ []; sight_loads = self.old.sight_loads ++ loads ∷ []; spare = self.old.spare - 1 } }
     {
@@ -83,7 +104,7 @@ impl Journal {
     }
 
     /// Keeps a pass.
-    pub(crate) fn pass(&mut self, passed: Passed)
+    pub fn pass(&mut self, passed: Passed)
         requires { 0 < self.old.spare }
         ensures { self.new ≡ record self.old { passes = self.old.passes ++ passed ∷ []; spare = self.old.spare - 1 } }
     {
@@ -92,7 +113,7 @@ impl Journal {
     }
 
     /// Keeps the answer of an act.
-    pub(crate) fn reply(&mut self, reply: ActResult)
+    pub fn reply(&mut self, reply: ActResult)
         requires { 0 < self.old.spare }
         ensures { self.new ≡ record self.old { replies = self.old.replies ++ reply ∷ []; spare = self.old.spare - 1 } }
     {
@@ -101,7 +122,7 @@ impl Journal {
     }
 
     /// Uses the room of a step that keeps nothing here.
-    pub(crate) fn step(&mut self)
+    pub fn step(&mut self)
         requires { 0 < self.old.spare }
         ensures { self.new ≡ record self.old { spare = self.old.spare - 1 } }
     {

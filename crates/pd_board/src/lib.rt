@@ -17,4 +17,5 @@ pub use answers::{
 };
 pub use board::Board;
 pub use chain::Chain;
+pub use journal::Journal;
 pub use plain::PlainBoard;

@@ -22,6 +22,5 @@ pub mod Whole
 pub mod Runs
 pub mod Admitted
 pub mod Laws
-pub mod Examples
 pub mod Replies
 pub mod Facts

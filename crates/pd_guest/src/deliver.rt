@@ -36,6 +36,7 @@ pub(crate) fn deliver<B: Board>(
     requires met { (B.standing board.old).known b ≡ Unknown → (B.standing board.old).held b ≡ true }
     ensures delivered { IfOk result (λ on. IsDeliveredSome event.now b on (B.standing board.old) (B.standing board.new) kept.old kept.new) }
     ensures fixed { fixed_of (B.standing board.new) ≡ fixed_of (B.standing board.old) }
+    ensures base { B.base board.new ≡ B.base board.old }
 {
     let kind = copy(&event.kind)?;
     let drawn = board.draw(event.number, b);

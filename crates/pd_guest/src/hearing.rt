@@ -55,6 +55,7 @@ fn load<B: Board>(
     requires answers { (x : ℕ) → x < (B.standing board.old).sessions → rows ≤ (B.standing board.old).answer_share x }
     ensures loaded { IfOk result (λ chain. IsRoomed node (has chain) rows (B.standing board.old) (B.standing board.new)) }
     ensures fixed { fixed_of (B.standing board.new) ≡ fixed_of (B.standing board.old) }
+    ensures base { B.base board.new ≡ B.base board.old }
 {
     let chain = board.chain(node);
     board.reserve(alloc, rows)?;
@@ -67,6 +68,7 @@ fn make_room<B: Board>(alloc: Global, board: &mut B, rows: u32) -> Result<(), Al
     requires answers { (x : ℕ) → x < (B.standing board.old).sessions → rows ≤ (B.standing board.old).answer_share x }
     ensures room { OnOk result (IsRoomedFor rows (B.standing board.old) (B.standing board.new)) }
     ensures fixed { fixed_of (B.standing board.new) ≡ fixed_of (B.standing board.old) }
+    ensures base { B.base board.new ≡ B.base board.old }
 {
     board.reserve(alloc, rows)
 }
@@ -88,6 +90,7 @@ pub(crate) fn enter<B: Board>(
     ensures context { OnOk result (h.new.kept.context ≡ h.old.kept.context) }
     ensures rest { h.new ≡ record h.old { opens = h.new.opens; kept = h.new.kept } }
     ensures fixed { fixed_of (B.standing board.new) ≡ fixed_of (B.standing board.old) }
+    ensures base { B.base board.new ≡ B.base board.old }
 {
     if !begins(event, h.next) || !is_node(event.node, nodes) || h.next >= MOST_EVENTS {
         return Err(AllocError);
@@ -137,6 +140,7 @@ pub(crate) fn leave<B: Board>(
     ensures context { OnOk result (h.new.kept.context ≡ h.old.kept.context) }
     ensures rest { h.new ≡ record h.old { opens = h.new.opens; kept = h.new.kept } }
     ensures fixed { fixed_of (B.standing board.new) ≡ fixed_of (B.standing board.old) }
+    ensures base { B.base board.new ≡ B.base board.old }
 {
     let Some(opened) = h.opens.pop() else {
         return Err(AllocError);
@@ -165,6 +169,7 @@ pub(crate) fn hear<B: Board>(
     ensures start { h.new.start ≡ h.old.start }
     ensures context { h.new.context ≡ h.old.context }
     ensures fixed { fixed_of (B.standing board.new) ≡ fixed_of (B.standing board.old) }
+    ensures base { B.base board.new ≡ B.base board.old }
 {
     if !h.whole {
         return Err(AllocError);

@@ -35,6 +35,7 @@ fn meet<B: Board>(
     requires room { (B.standing board.old).cleared + 1 < 2 ^ 60 }
     ensures met { OnOk result (IsMet event.now b (B.standing board.old) (B.standing board.new) kept.old kept.new on.old on.new) }
     ensures fixed { fixed_of (B.standing board.new) ≡ fixed_of (B.standing board.old) }
+    ensures base { B.base board.new ≡ B.base board.old }
 {
     match board.known(b) {
         Known::Disposed => board.sweep(event.node, b),
@@ -61,6 +62,7 @@ pub(crate) fn meet_all<B: Board>(
         → IsMeeting start ts t (has chain.now) 0 (B.standing board.old) kept.old on.old
         → IsMeeting start ts t (has chain.now) 4096 (B.standing board.new) kept.new on.new) }
     ensures fixed { fixed_of (B.standing board.new) ≡ fixed_of (B.standing board.old) }
+    ensures base { B.base board.new ≡ B.base board.old }
 {
     let mut from = 0;
     'chain: while let Some(b) = chain.next_from(from) {

@@ -28,6 +28,7 @@ fn part<B: Board>(
     requires known { (B.standing board.old).known b ≡ Unknown → ⊥ }
     ensures parted { OnOk result (IsParted event.now b (B.standing board.old) (B.standing board.new) kept.old kept.new) }
     ensures fixed { fixed_of (B.standing board.new) ≡ fixed_of (B.standing board.old) }
+    ensures base { B.base board.new ≡ B.base board.old }
 {
     match board.known(b) {
         Known::Disposed => board.pass(event.number, b),
@@ -52,6 +53,7 @@ pub(crate) fn part_all<B: Board>(
         → IsParting start ts t on.now (B.standing board.old) kept.old
         → IsParting start ts t [] (B.standing board.new) kept.new) }
     ensures fixed { fixed_of (B.standing board.new) ≡ fixed_of (B.standing board.old) }
+    ensures base { B.base board.new ≡ B.base board.old }
 {
     'on: for b in on {
         part(board, kept, event, *b)?;

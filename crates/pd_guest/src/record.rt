@@ -37,6 +37,7 @@ pub fn run_context<B: Board, G: Gate>(
     requires board { IsReadyFor plan.now program.now (B.standing board.old) }
     ensures record { IfOk result (IsRecord program.now (slice_index program.now.entries context) (fuel_at plan.now context) context (B.standing board.old) (B.standing board.new)) }
     ensures over { IfOk result (λ _. IsOver (B.standing board.old) (B.standing board.new)) }
+    ensures base { B.base board.new ≡ B.base board.old }
 {
     let h = begin(alloc, board, context, plan.bindings.as_slice().len() as u32)?;
     let mut guest = Guest {

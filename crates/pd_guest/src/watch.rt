@@ -28,9 +28,9 @@ impl<B: Board, G: Gate> Watcher for Guest<'_, '_, B, G> {
 
     ghost kept = { λ _. [] };
 
-    ghost Fixed = { ℕ × Standing × List Knowledge × ℕ };
+    ghost Fixed = { ℕ × Standing × List Knowledge × ℕ × B.Base };
 
-    ghost fixed = { λ w. (w.board.ghost_name, fixed_of (B.standing w.board.now), w.h.start.items, w.h.context) };
+    ghost fixed = { λ w. (w.board.ghost_name, fixed_of (B.standing w.board.now), w.h.start.items, w.h.context, B.base w.board.now) };
 
     fn event(&mut self, event: &Event, scene: &Scene<'_>) -> Result<Verdict, AllocError> {
         self.gate.at(self.h.kept.context, event.number);

@@ -10,6 +10,3 @@ mod shape;
 mod walk;
 
 pub use program::link;
-
-#[cfg(test)]
-mod tests;

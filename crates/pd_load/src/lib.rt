@@ -11,6 +11,3 @@ mod sources;
 
 pub use loading::load;
 pub use refusal::{LoadCause, LoadRefusal};
-
-#[cfg(test)]
-mod tests;

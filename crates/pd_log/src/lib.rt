@@ -1,7 +1,7 @@
 //! A binding's log of one context: its entries, and the pairing of an activation's end with its Enter.
 #![tactic(auto)]
 
-ghost use Rattle.std.specs.Prelude.{◌≡◌, ℕ, ◌<◌, ◌^◌, length, MatchOption};
+ghost use Rattle.std.specs.Prelude.{ℕ, ◌<◌, ◌^◌, length, MatchOption};
 ghost use Rattle.pd_log.specs.Pairing.{IsByEvent, IsEnterOf, IsPartner};
 
 use pd_machine::EventKind;
@@ -47,40 +47,5 @@ fn enter_of(log: &[Entry], event: u32) -> Option<u32>
             _ => None,
         },
         Err(_) => None,
-    }
-}
-
-#[cfg(test)]
-mod tests {
-    use super::*;
-    use std::test::Fail;
-
-    fn entry(event: u32, opened: u32, kind: EventKind) -> Entry
-        ensures { result.event ≡ event }
-    {
-        Entry {
-            context: 0,
-            event,
-            opened,
-            place: 0,
-            kind,
-            node: NodeId(2),
-        }
-    }
-
-    #[test]
-    fn an_end_finds_its_enter_among_nested_ones(rt: HostRuntime) -> Result<(), Fail> {
-        let log = [
-            entry(2, 2, EventKind::Enter),
-            entry(5, 5, EventKind::Enter),
-            entry(8, 5, EventKind::Return(pd_values::Value::Null)),
-            entry(9, 2, EventKind::Leave(pd_machine::Cause::Returning)),
-            entry(12, 11, EventKind::Return(pd_values::Value::Null)),
-        ];
-        assert_eq!(rt; partner(&log, 0), None);
-        assert_eq!(rt; partner(&log, 2), Some(1));
-        assert_eq!(rt; partner(&log, 3), Some(0));
-        assert_eq!(rt; partner(&log, 4), None);
-        Ok(())
     }
 }

@@ -12,8 +12,6 @@ mod memory_sink;
 mod output;
 mod pieces;
 mod sink;
-#[cfg(test)]
-mod tests;
 
 pub use fault::{Failed, FetchFault};
 pub use folder::FolderLibrary;

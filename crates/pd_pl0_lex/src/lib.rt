@@ -172,6 +172,3 @@ fn is_keyword(word: &[u8]) -> bool
         || word == b"do".as_slice()
         || word == b"odd".as_slice()
 }
-
-#[cfg(test)]
-mod tests;

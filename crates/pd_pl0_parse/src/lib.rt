@@ -7,6 +7,3 @@ mod texts;
 
 pub use build::parse;
 pub use texts::one_tree_law;
-
-#[cfg(test)]
-mod tests;

@@ -12,6 +12,3 @@ pub use parts::{Before, Block, Frame, Keyword, Levels, Mode, Part, Purpose, Shap
 pub use read::parts_of;
 pub use reader::Reader;
 pub use tokens::{name_of, word_of};
-
-#[cfg(test)]
-mod tests;

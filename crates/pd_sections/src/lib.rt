@@ -359,6 +359,3 @@ fn lines_begun(starts: &[u32], at: u32) -> usize
 {
     starts.partition_point(|start| *start <= at)
 }
-
-#[cfg(test)]
-mod tests;

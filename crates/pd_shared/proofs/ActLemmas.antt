@@ -27,7 +27,7 @@ use Rattle.pd_core.proofs.Attaches.{both, eqb_is}
 use Rattle.pd_core.proofs.Waves.{known_disposed, known_attached, is_disposed, same_known}
 use Rattle.pd_core.proofs.Whole.{whole_total}
 use Rattle.pd_core.proofs.Facts.{known_disposed_of, known_set_gone, known_set as attached_known}
-use Rattle.pd_shared.specs.Journal.{Entries}
+use Rattle.pd_board.specs.Journal.{Entries}
 use Rattle.pd_shared.specs.Book.{Book, known_at}
 use Rattle.pd_shared.specs.Tied.{told, act_of, dispose_of, attach_as, attach_of, known_set, made_by, first_by, late_by, count_by, toggle_by, none_taken, is_alone, IsKnown, AreDeeds, KnowsAlone, AreReads, KnowsTried, sight_of, before_of, IsTied}
 

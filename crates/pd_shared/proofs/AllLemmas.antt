@@ -28,7 +28,7 @@ use Rattle.pd_core.specs.Views.{number_in as number_in_view, missed_in, gave, mi
 use Rattle.pd_core.proofs.Sums.{total-append, same_here, same_else, pair_is-here}
 use Rattle.pd_core.proofs.Bits.{disposed_fits}
 use Rattle.pd_shared.specs.declared.sights.Sights.{Sights}
-use Rattle.pd_shared.specs.Journal.{Entries}
+use Rattle.pd_board.specs.Journal.{Entries}
 use Rattle.pd_shared.specs.Tied.{sight_of, drawn_of, act_of, act_as, toggle_as, toggle_of, made_by, first_by, late_by, count_by, toggle_by, AreDeeds}
 use Rattle.pd_shared.specs.Left.{DidLeave}
 use Rattle.pd_shared.specs.Closed.{all_of, is_first}

@@ -34,13 +34,16 @@ use Rattle.pd_core.proofs.Seats.{drawn_none, firsts_none, disposals_none, misses
 use Rattle.pd_core.proofs.Whole.{whole_total}
 use Rattle.pd_shared.specs.declared.token.Token.{Token}
 use Rattle.pd_shared.specs.declared.sights.Sights.{Sights}
-use Rattle.pd_shared.specs.Journal.{Entries}
+use Rattle.pd_board.specs.Journal.{Entries}
 use Rattle.pd_shared.specs.Book.{book_of}
 use Rattle.pd_shared.specs.Tied.{AreDeeds, IsKnown, IsTied}
 use Rattle.pd_shared.specs.Held.{IsHeld}
 use Rattle.pd_shared.specs.Left.{DidLeave}
 use Rattle.pd_shared.specs.Sitting.{number_for}
-use Rattle.pd_shared.specs.Closed.{tally_by, AreTallies, AreNumbers, OnceBelow, is_first, IsOutcomeOfAll, all_sights, all_replies, IsClosed}
+use Rattle.pd_shared.specs.Closed.{tally_by, AreTallies, AreNumbers, OnceBelow, is_first, IsOutcomeOfAll, all_sights, all_replies, IsClosed, CountsOnce, AnswersOnce}
+use Rattle.std.proofs.Math.Logic.{∥∥₁_elim}
+use Rattle.std.specs.Coded.{coded_ℕ}
+use base.Stored.{Coded-set}
 use Rattle.pd_shared.proofs.ActLemmas.{not_flag, yes_or_no, gone_there, attached_there}
 use Rattle.pd_shared.proofs.NumberLemmas.{over_own, off_fits, toggles_in, toggles_are}
 use Rattle.pd_shared.proofs.AllLemmas.{some_weight, total_same, count_total, any_none, any_some, filter_total, map_total, over_total, all_all, late_weight, firsts_is, lates_is, makings_is, disposals_is, first_splits, finals_in, disables_is, enables_is, number_weight, numbers_is, numbers_counted, places, over_splits, sights_fit}
@@ -368,3 +371,11 @@ closed_by p last ws words words_2 founds nodes nodes_2 rows count sessions made 
     closed p last ws tallies counts end tied.deeds tied.known_is held
     (subst (λ (x : List ℕ × ℕ × List ℕ × ℕ × List BindingTally). AreTallies x.0 x.1 x.2 x.3 x.4) (λ i. (words_are i, first i, founds_are i, long i, sym tallies_are i)) of_bindings)
     (subst (λ (x : List ℕ × ℕ × ℕ × ℕ × List ℕ). AreNumbers x.0 (x.1 + x.2) x.3 x.4) (λ i. (words_2_are i, first i, count_is i, sessions_are i, sym counts_are i)) of_sessions)
+
+-- ---- what is left of a tally that was closed from some last words
+
+pub counts_once : (p : Layout) (last : Token) (tallies read : List BindingTally) (counts : List ℕ) → ∥ IsClosed p last tallies counts ∥₁ → read ≡ tallies → CountsOnce last read
+counts_once p last tallies read counts kept is = subst (CountsOnce last) (sym is) (λ whole left did b lt x. ∥∥₁_elim kept (Coded-set coded_ℕ _ _) (λ (h : IsClosed p last tallies counts). (h.outcomes whole left did b (omega (arith, h.bindings_are))).numbers x))
+
+pub answers_once_all : (p : Layout) (last : Token) (tallies : List BindingTally) (counts read : List ℕ) → ∥ IsClosed p last tallies counts ∥₁ → read ≡ counts → AnswersOnce last read
+answers_once_all p last tallies counts read kept is = subst (AnswersOnce last) (sym is) (λ whole s lt x. ∥∥₁_elim kept (Coded-set coded_ℕ _ _) (λ (h : IsClosed p last tallies counts). h.numbers whole s (omega (arith, h.sessions_are)) x))

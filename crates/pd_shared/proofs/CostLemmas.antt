@@ -1,5 +1,5 @@
 -- What the calls cost that serve one event.
-use Rattle.std.proofs.Common.{◌≡◌, ◌≢◌, ℕ, zero, suc, ◌+◌, ◌*◌, ◌<◌, ◌≤◌, ◌==◌, List, [], ◌∷◌, length, Bool, true, false, if◌then◌else◌, sym, refl, ap, ◌∙◌, arith, eq-eqb, ne_eqb}
+use Rattle.std.proofs.Common.{◌≡◌, ◌≢◌, ℕ, ◌+◌, ◌<◌, ◌≤◌, ◌==◌, List, [], ◌∷◌, length, Bool, if◌then◌else◌, refl, ap, ◌∙◌, arith, eq-eqb, ne_eqb}
 use Rattle.std.specs.Prelude.{count_by}
 use Rattle.std.specs.List.{filter_map}
 use Rattle.std.proofs.lemmas.List.Sums.{sum_by-cons}
@@ -7,7 +7,7 @@ use Rattle.pd_board.proofs.ChainLemmas.{by_eq}
 use Rattle.pd_core.specs.declared.view.View.{View}
 use Rattle.pd_core.specs.Layout.{Layout}
 use Rattle.pd_core.specs.Kinds.{clear_bit, set_disposed}
-use Rattle.pd_shared.specs.Costs.{EventCall, draws, sweeps, passes, disposes, DoesCall, DoesEndCall, InTurn, met_by, is_draw, is_sweep, is_disposal, MeetsOnly, bits_of, CallsCost, EnterCosts, EndCosts}
+use Rattle.pd_shared.specs.Costs.{EventCall, draws, sweeps, passes, disposes, DoesEndCall, InTurn, met_by, is_draw, is_sweep, is_disposal, bits_of, CallsCost, EnterCosts, EndCosts}
 use Rattle.pd_shared.proofs.StepLemmas.{counts_one, counts_draw, counts_chain}
 
 -- ---- a list that has each number at most as often as another is no longer

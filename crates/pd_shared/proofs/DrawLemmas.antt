@@ -22,7 +22,7 @@ use Rattle.pd_core.proofs.Bits.{disposed_fits}
 use Rattle.pd_core.proofs.Attaches.{both, eqb_is}
 use Rattle.pd_core.proofs.Waves.{known_fresh, known_attached, is_disposed, is_attached, same_known}
 use Rattle.pd_core.proofs.Facts.{known_drew_off, known_drew_on}
-use Rattle.pd_shared.specs.Journal.{Entries}
+use Rattle.pd_board.specs.Journal.{Entries}
 use Rattle.pd_shared.specs.Book.{Book, known_at}
 use Rattle.pd_shared.specs.Tied.{told, drawn_of, sight_of, before_of, is_alone, IsKnown, AreDeeds, AreReads, KnowsAlone, KnowsTried, IsTied}
 use Rattle.pd_shared.specs.Took.{Took, DrawSteps, drew, looked, both as both_steps, Ready, at_once, looked_live, drawn_as, drawn_by, known_drawn, known_looked}

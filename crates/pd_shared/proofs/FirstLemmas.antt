@@ -9,7 +9,7 @@ use Rattle.pd_core.specs.Counts.{total, first_is}
 use Rattle.pd_core.specs.Talks.{silent, spent}
 use Rattle.pd_core.specs.Views.{fresh, known, known_in, known_of, first_view, spent_view, newcomer, no_deeds}
 use Rattle.pd_core.proofs.Sums.{total-none, times-none}
-use Rattle.pd_shared.specs.Journal.{Entries}
+use Rattle.pd_board.specs.Journal.{Entries}
 use Rattle.pd_shared.specs.declared.token.Reads.{Reads}
 use Rattle.pd_shared.specs.declared.token.Token.{Token}
 use Rattle.pd_shared.specs.Book.{book_of, known_at, reads_at, unread}

@@ -8,6 +8,7 @@ use Rattle.std.proofs.lemmas.Grind.{get_or-set_at}
 use Rattle.std.proofs.lemmas.Bool.Decides.{nat_tests}
 use Rattle.std.specs.List.{list_any}
 use Rattle.pd_plan.specs.declared.table.MatchTable.{MatchTable}
+use Rattle.pd_shared.proofs.MatchingLemmas.{rows_past}
 use Rattle.pd_board.proofs.ChainLemmas.{by_eq, by_lt}
 use Rattle.pd_board.specs.declared.answers.Known.{Known}
 use Rattle.pd_board.specs.declared.answers.Known.TheVariants as knowns
@@ -98,7 +99,7 @@ done_skip table n w low high next was now le d same = record {
 missing_bit : (m w i : ℕ) → w < 2 ^ 64 → i < 64 → bit_at (bit_and m (bit_not w64 w)) i ≡ min (bit_at m i) (1 - bit_at w i)
 missing_bit m w i fits lt = bit_at_and m (bit_not w64 w) i ∙ ap (min (bit_at m i)) (bit_at_not w64 w i fits lt)
 
-by_bits : (m w i : ℕ) → w < 2 ^ 64 → i < 64 → {A : Type 0} → (bit_of m i ≡ 0 → A) → (bit_of w i ≡ 1 → A) → (bit_of (bit_and m (bit_not w64 w)) i ≡ 1 → bit_of m i ≡ 1 → bit_of w i ≡ 0 → A) → A
+by_bits : {A : Type 0} (m w i : ℕ) → w < 2 ^ 64 → i < 64 → (bit_of m i ≡ 0 → A) → (bit_of w i ≡ 1 → A) → (bit_of (bit_and m (bit_not w64 w)) i ≡ 1 → bit_of m i ≡ 1 → bit_of w i ≡ 0 → A) → A
 unfolding bit_of
 by_bits m w i fits lt none there missing = ⊎_elim none
     (λ (matching : bit_at m i ≡ 1). ⊎_elim
@@ -135,15 +136,20 @@ matched_there table n r m w b fits tells here one = by_bits m w (b % 64) fits (o
     (λ (o : bit_at w (b % 64) ≡ 1). absurd (let is = missing_bit m w (b % 64) fits (omega arith) in omega arith))
     (λ _ (on : bit_at m (b % 64) ≡ 1) (clear : bit_at w (b % 64) ≡ 0). (sym (tells b here) ∙ eq-eqb (bit_at m (b % 64)) 1 on, ne_eqb (bit_at w (b % 64)) 1 (λ e. omega arith)))
 
-rows_past : (rows : List (List ℕ)) (b : ℕ) → length rows ≤ b → get_or rows b [] ≡ []
-rows_past [] b h = refl
-rows_past (x ∷ xs) zero h = absurd (omega arith)
-rows_past (x ∷ xs) (suc b) h = rows_past xs b (omega arith)
-
 -- a binding that matches a node is one of the table
 pub row_below : (table : MatchTable) (b n : ℕ) → in_row table b n ≡ true → b < length table.rows
 row_below table b n e = by_lt b (length table.rows) (λ (h : b < length table.rows). h)
     (λ (h : length table.rows ≤ b). absurd (let q : true ≡ false = sym e ∙ ap (list_any (λ m. m == n)) (rows_past table.rows b h) in cc))
+
+-- and it is one of those of which something is known
+pub found_within : (table : MatchTable) (rows : List (List ℕ)) (n r m w low place len : ℕ) → w < 2 ^ 64 → Tells table n r m → IsLowestFrom (missing_of m w) low place → table.rows ≡ rows → len ≡ length rows → 64 * r + place < len
+unfolding bit_of
+found_within table rows n r m w low place len fits tells lowest same_rows long =
+    let below : place < 64 = lowest.within in
+    let there = matched_there table n r m w (64 * r + place) fits tells (omega arith) (ap (bit_at (missing_of m w)) (let e : (64 * r + place) % 64 ≡ place = omega arith in e) ∙ lowest.set) in
+    let inside = row_below table (64 * r + place) n there.0 in
+    let same : length table.rows ≡ length rows = ap length same_rows in
+    omega arith
 
 pub gone_step : (table : MatchTable) (n r m w low place high : ℕ) (was now : List Known) (x : Known) → w < 2 ^ 64 → Tells table n r m → IsLowestFrom (missing_of m w) low place → 64 * r + place < length now → high ≡ 64 * r + place + 1
     → IsDone table n w (64 * r) (64 * r + low) was now → x ≡ known_after_load true false (known_at now (64 * r + place)) → IsDone table n w (64 * r) high was (slice_set now (64 * r + place) x)

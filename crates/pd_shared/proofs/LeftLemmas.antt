@@ -19,7 +19,7 @@ use Rattle.atomic_table.specs.Seated.{TableId}
 use Rattle.pd_shared.specs.declared.token.Reads.{Reads}
 use Rattle.pd_shared.specs.declared.token.Token.{Token}
 use Rattle.pd_shared.specs.declared.sights.Sights.{Sights}
-use Rattle.pd_shared.specs.Journal.{Entries}
+use Rattle.pd_board.specs.Journal.{Entries}
 use Rattle.pd_shared.specs.Book.{Book, known_at, reads_at, unread}
 use Rattle.pd_shared.specs.First.{IsFirst}
 use Rattle.pd_shared.specs.Tied.{none_taken, is_alone, AreDeeds, AreReads, IsTied, sight_of, before_of}

@@ -15,3 +15,4 @@ pub mod AllLemmas
 pub mod CloseLemmas
 pub mod StepLemmas
 pub mod CostLemmas
+pub mod MatchingLemmas

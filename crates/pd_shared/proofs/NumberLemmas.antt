@@ -26,7 +26,7 @@ use Rattle.pd_core.specs.Good.{Good}
 use Rattle.pd_core.proofs.Sums.{total-at, once_below_some, same_here}
 use Rattle.std.proofs.lemmas.Nat.Bits.{bit_at-lt}
 use Rattle.pd_core.proofs.Bits.{disposed_fits}
-use Rattle.pd_shared.specs.Journal.{Entries}
+use Rattle.pd_board.specs.Journal.{Entries}
 use Rattle.pd_shared.specs.Tied.{drawn_of, sight_of, act_of, act_as, toggle_as, toggle_of, toggle_by, AreDeeds}
 use Rattle.pd_shared.proofs.ActLemmas.{not_flag}
 

@@ -1,5 +1,5 @@
 -- How many steps each call takes.
-use Rattle.std.proofs.Common.{◌≡◌, ℕ, zero, suc, ◌+◌, ◌*◌, ◌/◌, ◌≤◌, List, [], ◌∷◌, length, Bool, true, false, if◌then◌else◌, ◌==◌, sym, refl, ap, ◌∙◌, arith}
+use Rattle.std.proofs.Common.{◌≡◌, ℕ, zero, suc, ◌+◌, ◌*◌, ◌/◌, length, Bool, true, false, if◌then◌else◌, ◌==◌, sym, refl, ap, ◌∙◌, arith}
 use Rattle.std.specs.Prelude.{slice_index}
 use Rattle.pd_core.specs.declared.view.View.{View}
 use Rattle.pd_core.specs.Layout.{Layout, row, width}

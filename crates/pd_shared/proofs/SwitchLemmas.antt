@@ -19,7 +19,7 @@ use Rattle.pd_core.proofs.Bits.{disposed_fits}
 use Rattle.pd_core.proofs.Attaches.{eqb_is}
 use Rattle.pd_core.proofs.Waves.{same_known}
 use Rattle.pd_core.proofs.Facts.{known_off_gone, known_on_gone}
-use Rattle.pd_shared.specs.Journal.{Entries}
+use Rattle.pd_board.specs.Journal.{Entries}
 use Rattle.pd_shared.specs.Book.{Book, known_at}
 use Rattle.pd_shared.specs.Tied.{told, act_of, toggle_of, toggle_as, known_switched, IsKnown, AreDeeds, IsTied}
 use Rattle.pd_shared.proofs.ActLemmas.{yes_or_no, not_flag, with_reply, deeds_act, tied_act, gone_there, alone_disposed, disposal_stays}

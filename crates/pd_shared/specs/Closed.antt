@@ -19,7 +19,7 @@ use Rattle.pd_core.specs.Words.{attached, disposed, sum_in}
 use Rattle.pd_core.specs.Runs.{IsLast}
 use Rattle.pd_shared.specs.declared.token.Token.{Token}
 use Rattle.pd_shared.specs.declared.sights.Sights.{Sights}
-use Rattle.pd_shared.specs.Journal.{Entries}
+use Rattle.pd_board.specs.Journal.{Entries}
 use Rattle.pd_shared.specs.Sitting.{number_for}
 use Rattle.pd_shared.specs.Left.{DidLeave}
 use Rattle.pd_shared.specs.Book.{known_at}
@@ -110,3 +110,15 @@ pub record IsClosed (p : Layout) (last : Token) (tallies : List BindingTally) (c
       → IsOutcomeOfAll b (all_sights last.journal left) (all_replies last.journal left) (slice_index_or tallies b no_tally)
   -- the answer numbers of a session are those below its number of answers, each once
   pub numbers : IsWhole last → (s : ℕ) → s < p.sessions → OnceBelow (slice_index counts s) (filter_map (number_for s) (last.pass.view.talk.numbers ++ last.pass.view.talk.handed))
+
+-- ---- what whoever holds a tally knows of it
+
+-- where its last token has all shares of the seats, and these sights are those of all seats that this took in, each number below a binding's
+-- count stands once in the sights of all seats, and no other number does
+abbrev pub CountsOnce : Token → List BindingTally → Type 0
+CountsOnce last tallies = IsWhole last → (left : List Sights) → DidLeave left last.pass.view.taken → (b : ℕ) → b < length tallies
+    → OnceBelow (slice_index_or tallies b no_tally).count (numbers_of b (all_sights last.journal left))
+
+-- and so does each answer number of a session, among those that all seats took
+abbrev pub AnswersOnce : Token → List ℕ → Type 0
+AnswersOnce last counts = IsWhole last → (s : ℕ) → s < length counts → OnceBelow (slice_index counts s) (filter_map (number_for s) (last.pass.view.talk.numbers ++ last.pass.view.talk.handed))

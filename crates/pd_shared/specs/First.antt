@@ -4,7 +4,7 @@ use Rattle.std.specs.Prelude.{◌≡◌, ℕ, List, false, None}
 use Rattle.pd_board.specs.Chain.{has}
 use Rattle.pd_shared.specs.declared.token.Reads.{Reads}
 use Rattle.pd_shared.specs.declared.token.Token.{Token}
-use Rattle.pd_shared.specs.Journal.{empty}
+use Rattle.pd_board.specs.Journal.{empty}
 use Rattle.pd_shared.specs.Book.{unread}
 
 -- its counts, its loads of nodes and its reads of sessions are these lists

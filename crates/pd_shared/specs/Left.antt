@@ -1,7 +1,8 @@
 -- Definition, which public contracts cite.
 -- What a split leaves, and what a retired seat leaves to the one that takes it in.
-use Rattle.std.specs.Prelude.{◌≡◌, ℕ, ◌+◌, ◌-◌, ◌<◌, max, false, List, [], ◌∷◌}
+use Rattle.std.specs.Prelude.{◌≡◌, ℕ, ◌+◌, ◌-◌, ◌<◌, max, false, List, [], ◌∷◌, vec_len}
 use Rattle.pd_core.specs.declared.view.Deeds.{Deeds}
+use Rattle.pd_core.specs.Layout.{Layout}
 use Rattle.pd_core.specs.Views.{halved, newcomer, joined, handed_share}
 use Rattle.pd_core.specs.Talks.{handed_answers, answer_share}
 use Rattle.pd_shared.specs.declared.token.Token.{Token}
@@ -52,6 +53,10 @@ pub record Leaves (t : Token) (s : Sights) : Type 0 where
   pub loads : s.loads.items ≡ t.loads.items
   pub sessions : s.sessions.items ≡ t.sessions.items
   pub ends : s.ends ≡ t.ends
+
+-- it has a number of loads for each node of the board, and what was read of each session
+abbrev pub IsOver : Layout → Sights → Type 0
+IsOver p s = (vec_len s.loads ≡ p.nodes) × (vec_len s.sessions ≡ p.sessions)
 
 -- the other one has its own entries, shares of both, and the later of what both know and read
 pub record TakesIn (old : Sitting) (t : Token) (new : Sitting) : Type 0 where

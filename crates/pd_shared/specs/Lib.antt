@@ -1,7 +1,6 @@
 -- Definitions, which public contracts cite:
--- Journal, Book, Tied, Sitting, Took, Steps, Loading, Held, Merged, Left and Closed.
+-- Book, Tied, Sitting, Took, Steps, Loading, Costs, Held, Merged, Left and Closed.
 -- For the proofs alone: First.
-pub mod Journal
 pub mod Book
 pub mod Tied
 pub mod Sitting

@@ -1,12 +1,12 @@
 -- Definition, which public contracts cite.
 -- The steps of each call of a seat, and how many they are.
-use Rattle.std.specs.Prelude.{◌≡◌, ℕ, zero, suc, ◌+◌, ◌*◌, ◌/◌, ◌≤◌, ◌==◌, Bool, true, false, if◌then◌else◌, List, [], ◌∷◌, length, slice_index}
+use Rattle.std.specs.Prelude.{◌≡◌, ℕ, zero, suc, ◌+◌, ◌*◌, ◌/◌, ◌≤◌, ◌==◌, Bool, true, false, if◌then◌else◌, length, slice_index}
 use Rattle.pd_board.specs.declared.answers.Known.{Known}
 use Rattle.pd_board.specs.declared.answers.Drawn.{Drawn}
 use Rattle.pd_core.specs.declared.view.View.{View}
 use Rattle.pd_core.specs.Layout.{Layout, row, width}
 use Rattle.pd_core.specs.Words.{bit_of}
-use Rattle.pd_core.specs.Kinds.{Kind, load_node, load_row, clear_bit, set_bit, set_summary, set_attached, set_disposed, count_end}
+use Rattle.pd_core.specs.Kinds.{Kind, load_node, load_row, set_bit, set_summary, set_attached, count_end}
 use Rattle.pd_core.specs.Views.{known, found_attached, past_in, half_in}
 use Rattle.pd_shared.specs.Took.{Took, DrawSteps}
 

@@ -29,7 +29,7 @@ use Rattle.pd_core.specs.Words.{attached, disposed, off, sum_in}
 use Rattle.pd_core.specs.Counts.{total, first_is}
 use Rattle.pd_core.specs.Talks.{spent, readings, end_readings}
 use Rattle.pd_core.specs.Views.{Known as Found, fresh, found_attached, found_disposed, known}
-use Rattle.pd_shared.specs.Journal.{Entries}
+use Rattle.pd_board.specs.Journal.{Entries}
 use Rattle.pd_shared.specs.declared.token.Reads.{Reads}
 use Rattle.pd_shared.specs.Book.{Book, known_at, reads_at}
 

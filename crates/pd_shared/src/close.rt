@@ -24,16 +24,20 @@ pub struct Tally {
 }
 
 impl Tally {
+    ghost use Rattle.pd_shared.specs.Closed.{CountsOnce, AnswersOnce};
+
     /// How each binding ended up, by its number. It takes no memory.
     pub fn bindings(&self) -> &[BindingTally]
-        ensures { result.now ≡ self.now.bindings }
+        ensures bindings { result.now ≡ self.now.bindings }
+        ensures once { CountsOnce self.now.last.value result.now }
     {
         self.bindings.as_slice()
     }
 
     /// How many answers of each session were taken, by its number. It takes no memory.
     pub fn answers(&self) -> &[u32]
-        ensures { result.now ≡ self.now.answers }
+        ensures answers { result.now ≡ self.now.answers }
+        ensures once { AnswersOnce self.now.last.value result.now }
     {
         self.answers.as_slice()
     }

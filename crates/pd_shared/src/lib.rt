@@ -2,7 +2,6 @@
 #![tactic(auto)]
 
 mod close;
-mod journal;
 mod laws;
 mod matching;
 mod merge;

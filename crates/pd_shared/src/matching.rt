@@ -1,5 +1,5 @@
 //! Which bindings match a node.
-ghost use Rattle.std.specs.Prelude.{◌≡◌, ℕ, ◌*◌, ◌/◌, ◌%◌, ◌<◌, ◌≤◌, ◌==◌, ◌&&◌, ◌||◌, [], false, IfOk, length, slice_index_or, vec_len};
+ghost use Rattle.std.specs.Prelude.{◌≡◌, ℕ, ◌+◌, ◌*◌, ◌/◌, ◌%◌, ◌<◌, ◌≤◌, ◌==◌, ◌&&◌, ◌||◌, [], false, IfOk, length, slice_index, slice_index_or, vec_len};
 ghost use Rattle.std.specs.List.{All, list_any};
 ghost use Rattle.pd_core.specs.Words.{bit_of};
 
@@ -27,9 +27,9 @@ impl Matching {
         nodes: u32,
     ) -> Result<Matching, AllocError>
         requires few { length rows.now ≤ 4096 }
-        requires within { (b : ℕ) → All (λ n. n < nodes) (slice_index_or rows.now b []) }
+        requires within { (b k : ℕ) → k < length (slice_index_or rows.now b []) → slice_index (slice_index_or rows.now b []) k < nodes }
         ensures nodes { IfOk result (λ m. m.nodes ≡ nodes) }
-        ensures bindings { IfOk result (λ m. m.bindings ≡ length rows.now) }
+        ensures width { IfOk result (λ m. m.width ≡ (length rows.now + 63) / 64) }
         ensures stand { IfOk result (λ m. (n b : ℕ) → stands m n b ≡ list_any (λ x. x == n) (slice_index_or rows.now b [])) }
     {
         let mut matching = Matching::new(alloc, nodes, rows.len())?;
@@ -44,9 +44,10 @@ impl Matching {
         requires { bindings ≤ 4096 }
         ensures nodes { IfOk result (λ m. m.nodes ≡ nodes) }
         ensures bindings { IfOk result (λ m. m.bindings ≡ bindings) }
+        ensures width { IfOk result (λ m. m.width ≡ (bindings + 63) / 64) }
         ensures clear { IfOk result (λ m. (n b : ℕ) → stands m n b ≡ false) }
     {
-        let width = bindings.div_ceil(64);
+        let width = (bindings + 63) / 64;
         Ok(Matching {
             nodes,
             bindings,
@@ -78,14 +79,12 @@ impl Matching {
         }
     }
 
-    /// The word of the node for the bindings from `64 * r` on; 0 past the last binding.
+    /// The word of the node for the 64 bindings from `64 * r` on.
     pub(crate) fn word(&self, n: u32, r: u32) -> u64
-        requires { n < self.now.nodes }
+        requires node { n < self.now.nodes }
+        requires row { r < self.now.width }
         ensures { (b : ℕ) → b / 64 ≡ r → (bit_of result (b % 64) == 1) ≡ stands self.now n b }
     {
-        if r as usize >= self.width {
-            return 0;
-        }
         self.words[n as usize * self.width + r as usize]
     }
 }

@@ -56,7 +56,7 @@ impl<'b> Seat<'b> {
     ghost use Rattle.pd_shared.specs.Tied.{none_taken};
     ghost use Rattle.pd_shared.specs.Sitting.{IsOf, standing_of};
     ghost use Rattle.pd_shared.specs.Closed.{IsWhole};
-    ghost use Rattle.pd_shared.specs.Left.{HasHanded, IsNewcomer, Leaves, TakesIn, DidLeave};
+    ghost use Rattle.pd_shared.specs.Left.{HasHanded, IsNewcomer, Leaves, IsOver, TakesIn, DidLeave};
 
     /// For how many further steps there is room.
     pub fn spare(&self) -> u32
@@ -133,6 +133,7 @@ impl<'b> Seat<'b> {
     pub fn retire(self, into: &mut Seat<'_>) -> Sights
         requires { into.old.hub ≡ self.hub }
         ensures leaves { Leaves self.entry.token result }
+        ensures over { IsOver self.entry.hub.layout result }
         ensures takes { TakesIn into.old self.entry.token into.new }
         ensures did { (left others : List Sights) → DidLeave left into.old.token.pass.view.taken → DidLeave others self.entry.token.pass.view.taken → DidLeave (left ++ result ∷ others) into.new.token.pass.view.taken }
     {
@@ -144,6 +145,7 @@ impl<'b> Seat<'b> {
     fn take_in(&mut self, other: Token) -> Sights
         requires { IsOf self.old.hub other }
         ensures leaves { Leaves other result }
+        ensures over { IsOver self.old.hub.layout result }
         ensures takes { TakesIn self.old other self.new }
     {
         let Token {

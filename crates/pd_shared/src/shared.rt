@@ -30,6 +30,7 @@ pub struct SharedBoard {
     ghost sound: { IsSound core.layout },
     ghost wide: { row_words ≡ width core.layout },
     ghost nodes: { matching.nodes ≡ core.layout.nodes },
+    ghost broad: { matching.width ≡ width core.layout },
     ghost matches: { (n b : ℕ) → stands matching n b ≡ in_row table b n },
 }
 

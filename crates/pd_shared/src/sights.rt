@@ -2,9 +2,8 @@
 ghost use Rattle.std.specs.Prelude.{◌≡◌, ◌<◌, length, slice_index, vec_len};
 ghost use Rattle.pd_shared.specs.Book.{reads_at};
 
-use crate::journal::Journal;
 use crate::token::Reads;
-use pd_board::{ActResult, Passed, Sight};
+use pd_board::{ActResult, Journal, Passed, Sight};
 
 /// What a seat did while it was one: its draws, passes and acts, and how often it read which words.
 #[derive(Drop)]

@@ -114,6 +114,7 @@ fn lowest_from(word: u64, low: u32) -> Option<u32>
 fn find_gone(board: &SharedBoard, known: &mut Vec<Known>, n: u32, r: u32, word: u64)
     requires node { n < board.now.core.layout.nodes }
     requires row { r < 64 }
+    requires within { r < width board.now.core.layout }
     requires len { vec_len known.old ≡ bindings board.now.core.layout }
     ensures len { vec_len known.new ≡ vec_len known.old }
     ensures known { IsRowKnown board.now.table n r word known.old.items known.new.items }

@@ -4,8 +4,7 @@ ghost use Rattle.pd_board.specs.Chain.{has};
 ghost use Rattle.pd_shared.specs.First.{IsFirst};
 ghost use Rattle.pd_shared.specs.Book.{unread};
 
-use crate::journal::Journal;
-use pd_board::{Chain, Known};
+use pd_board::{Chain, Journal, Known};
 use pd_core::hub::Pass;
 use pd_values::NodeId;
 use std::alloc::{AllocError, Global};

@@ -265,6 +265,3 @@ fn is_keyword(word: &[u8]) -> bool
         || word == b"continue".as_slice()
         || word == b"debugger".as_slice()
 }
-
-#[cfg(test)]
-mod tests;

@@ -9,6 +9,3 @@ mod texts;
 pub use build::parse;
 pub use scope::{Scope, Variable};
 pub use texts::{one_tree_law, texts_law};
-
-#[cfg(test)]
-mod tests;

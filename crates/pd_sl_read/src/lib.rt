@@ -10,6 +10,3 @@ pub use parts::{Block, Frame, Head, Keyword, Level, Levels, Mode, Part, Shape, W
 pub use read::parts_of;
 pub use reader::Reader;
 pub use tokens::word_of;
-
-#[cfg(test)]
-mod tests;

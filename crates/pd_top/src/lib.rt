@@ -6,8 +6,6 @@ mod files;
 mod loading;
 mod outcome;
 mod plans;
-#[cfg(test)]
-mod tests;
 mod top;
 mod words;
 

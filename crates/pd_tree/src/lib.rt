@@ -13,6 +13,3 @@ pub use builder::{Builder, Tree};
 pub use kind::{Kind, Meaning, Operator, Visible};
 pub use place::{Place, Span, stretch};
 pub use program::{Lists, Program};
-
-#[cfg(test)]
-mod tests;

@@ -195,6 +195,3 @@ fn negated(x: i64) -> Result<Value, Fault>
 {
     x.checked_neg().map(Value::Number).ok_or(Fault::Overflow)
 }
-
-#[cfg(test)]
-mod tests;

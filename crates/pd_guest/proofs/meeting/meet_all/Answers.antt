@@ -1,5 +1,5 @@
 -- One binding more is served, and at last all are.
-use Rattle.std.proofs.Common.{ℕ, arith}
+use Rattle.std.proofs.Common.{ℕ, arith, ◌∙◌}
 use Rattle.pd_board.specs.Chain.{has}
 use Rattle.pd_guest.proofs.MeetingLaws.{spent-more, meeting-more, meeting-all}
 use Rattle.pd_guest.proofs.meeting.meet_all.Goals as goal
@@ -11,6 +11,7 @@ chain-preserved g c =
       from_in = omega (arith, c.requires.within b c.in-Some.ensures.passes, c.requires.rows);
       spent = spent-more (has c.args.chain.now) c.chain.from b c.args.event.now (g.B.Board.standing c.args.board.now) (g.B.Board.standing c.chain.board) (g.B.Board.standing c.meet.new.board)
           c.args.kept.now c.chain.kept c.meet.new.kept c.chain.on c.meet.new.on c.chain.invariant.spent c.in_ok-meet.ensures.met c.in-Some.ensures;
+      base = c.meet.ensures.base ∙ c.chain.invariant.base;
       meeting = λ start ts t same enter i.
           meeting-more start ts t (has c.args.chain.now) c.chain.from b c.args.event.now (g.B.Board.standing c.args.board.now) (g.B.Board.standing c.chain.board) (g.B.Board.standing c.meet.new.board)
           c.args.kept.now c.chain.kept c.meet.new.kept c.chain.on c.meet.new.on same enter (c.requires.within b c.in-Some.ensures.passes) c.requires.count c.chain.invariant.spent

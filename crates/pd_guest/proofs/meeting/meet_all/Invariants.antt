@@ -11,6 +11,7 @@ abbrev pub invariant-chain : goal.invariant-chain
 invariant-chain g l = record {
   from_in : l.from ≤ 4096;
   spent : IsSpent (has l.chain) l.event.number l.from (g.B.Board.standing l.initial.board) (g.B.Board.standing l.board) l.initial.kept l.kept;
+  base : g.B.Board.base l.board ≡ g.B.Board.base l.initial.board;
   meeting : (start : ℕ → Known) (ts : List Told) (t : Told) → t.event ≡ l.event → is_enter t.event.kind ≡ true
       → IsMeeting start ts t (has l.chain) 0 (g.B.Board.standing l.initial.board) l.initial.kept l.initial.on
       → IsMeeting start ts t (has l.chain) l.from (g.B.Board.standing l.board) l.kept l.on;

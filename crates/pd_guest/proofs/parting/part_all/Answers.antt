@@ -1,5 +1,5 @@
 -- One binding more is served, and at last all are.
-use Rattle.std.proofs.Common.{◌≡◌, ℕ, List, drop, ◌∷◌, get_or, subst, ◌+◌, arith}
+use Rattle.std.proofs.Common.{◌≡◌, ℕ, List, drop, ◌∷◌, get_or, subst, ◌+◌, arith, ◌∙◌}
 use Rattle.pd_guest.specs.Parting.{IsFit, IsParting}
 use Rattle.pd_guest.proofs.PartingLaws.{split_drop, dropped, fit-more, used-more, parting-more}
 use Rattle.pd_guest.proofs.parting.part_all.Goals as goal
@@ -15,6 +15,7 @@ on-preserved g c =
     record {
       fit = fit-more b bs c.args.event.now (g.B.Board.standing c.on.board) (g.B.Board.standing c.part.new.board) c.on.kept c.part.new.kept fit c.in_ok-part.ensures.parted;
       used = used-more i b c.args.event.now (g.B.Board.standing c.args.board.now) (g.B.Board.standing c.on.board) (g.B.Board.standing c.part.new.board) c.args.kept.now c.on.kept c.part.new.kept c.on.invariant.used c.in_ok-part.ensures.parted;
+      base = c.part.ensures.base ∙ c.on.invariant.base;
       parting = λ start ts t same end x.
           parting-more start ts t b bs c.args.event.now (g.B.Board.standing c.on.board) (g.B.Board.standing c.part.new.board) c.on.kept c.part.new.kept same end fit c.in_ok-part.ensures.parted
           (subst (λ y. IsParting start ts t y (g.B.Board.standing c.on.board) c.on.kept) split (c.on.invariant.parting start ts t same end x));

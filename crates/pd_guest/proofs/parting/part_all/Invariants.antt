@@ -10,6 +10,7 @@ abbrev pub invariant-on : goal.invariant-on
 invariant-on g l = record {
   fit : IsFit (drop l.b-index l.on) (g.B.Board.standing l.board) l.kept;
   used : IsUsed l.event.number l.b-index (g.B.Board.standing l.initial.board) (g.B.Board.standing l.board) l.initial.kept l.kept;
+  base : g.B.Board.base l.board ≡ g.B.Board.base l.initial.board;
   parting : (start : ℕ → Known) (ts : List Told) (t : Told) → t.event ≡ l.event → is_enter t.event.kind ≡ false
       → IsParting start ts t l.on (g.B.Board.standing l.initial.board) l.initial.kept
       → IsParting start ts t (drop l.b-index l.on) (g.B.Board.standing l.board) l.kept;

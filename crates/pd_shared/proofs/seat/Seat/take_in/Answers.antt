@@ -54,3 +54,6 @@ returns-clause-takes c =
     subst (λ (s : Sitting). TakesIn s theirs (record here { token = record mine { pass = c.join.new.p; seats = c.saturating_add-self-inside.result; known = c.merge_known.new.own; counts = c.merge_counts.new.own; sessions = c.merge_reads.new.own; ends = c.merge_last-self-inside.result } })) c.self.view_is
     (takes_in here theirs c.join.new.p.id c.join.new.p.view c.saturating_add-self-inside.result c.merge_known.new.own c.merge_counts.new.own c.merge_reads.new.own c.merge_last-self-inside.result view
     known (is_of.1.known_is.0 ∙ sym c.self.invariant.1.known_is.0) reads (is_of.1.reads.sessions_are ∙ sym c.self.invariant.1.reads.sessions_are) c.merge_last-self-inside.ensures c.self.invariant.1.reads.within is_of.1.reads.within)
+
+pub returns-clause-over : goal.returns-clause-over
+returns-clause-over c = (omega (arith, c.requires.1.loads.0), omega (arith, c.requires.1.reads.sessions_are))

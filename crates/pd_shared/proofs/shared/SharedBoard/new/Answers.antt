@@ -1,4 +1,6 @@
-use Rattle.std.proofs.Common.{rules, ◌≡◌, ℕ, sym, ap, ◌∙◌, subst, arith, length, List, replicate}
+use Rattle.std.proofs.Common.{rules, ◌≡◌, ◌<◌, ◌==◌, ℕ, [], sym, ap, ◌∙◌, subst, arith, length, List, replicate}
+use Rattle.std.specs.Prelude.{slice_index, slice_index_or}
+use Rattle.std.specs.List.{list_any}
 use Rattle.pd_plan.specs.declared.table.MatchTable.{MatchTable}
 use Rattle.pd_core.specs.Layout.{Layout, IsSound, bindings}
 use Rattle.pd_core.specs.Tokens.{Holder}
@@ -52,4 +54,13 @@ invariant_of-result c =
       rows = ap (λ (t : MatchTable). t.rows) c.in_ok-table.ensures ∙ sym (ap (λ (p : Layout). p.rows) lay);
       sound = subst IsSound (sym lay) c.requires;
       wide = omega (arith, width_is c.in_ok-core.core.layout, count);
+      nodes = c.in_ok-matching.ensures.nodes ∙ sym (ap (λ (p : Layout). p.nodes) lay);
+      broad = omega (arith, c.in_ok-matching.ensures.width, width_is c.in_ok-core.core.layout, ap length c.as_slice-given.ensures, ap (λ (p : Layout). bindings p) (sym lay));
+      matches = λ n b. c.in_ok-matching.ensures.stand n b ∙ ap (λ (rows : List (List ℕ)). list_any (λ m. m == n) (slice_index_or rows b [])) (c.as_slice-given.ensures ∙ ap (λ (t : MatchTable). t.rows) (sym c.in_ok-table.ensures));
     }
+
+pub of-requires-clause-few : goal.of-requires-clause-few
+of-requires-clause-few c = omega (arith, c.requires.0, ap length c.as_slice-given.ensures)
+
+pub of-requires-clause-within : goal.of-requires-clause-within
+of-requires-clause-within c = subst (λ (rows : List (List ℕ)). (b k : ℕ) → k < length (slice_index_or rows b []) → slice_index (slice_index_or rows b []) k < c.args.nodes) (sym c.as_slice-given.ensures) c.requires.1

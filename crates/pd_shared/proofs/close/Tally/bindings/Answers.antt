@@ -1,0 +1,5 @@
+use Rattle.pd_shared.proofs.CloseLemmas.{counts_once}
+use Rattle.pd_shared.proofs.close.Tally.bindings.Goals as goal
+
+pub returns-clause-once : goal.returns-clause-once
+returns-clause-once c = counts_once c.args.self.now.core.value.layout c.args.self.now.last.value c.args.self.now.bindings c.as_slice.result.now c.args.self.now.answers c.args.self.now.closed c.as_slice.ensures
