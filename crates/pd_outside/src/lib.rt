@@ -1,6 +1,7 @@
 //! The outside as the host sees it: files by name, a sink of bytes, and a gate that a test may hold shut.
 #![tactic(auto)]
 
+mod answers;
 mod fault;
 mod faults;
 mod folder;
@@ -9,6 +10,7 @@ mod library;
 mod memory_library;
 mod memory_sink;
 mod output;
+mod pieces;
 mod sink;
 
 pub use fault::{Failed, FetchFault};
