@@ -7,6 +7,7 @@ ghost use Rattle.pd_core.specs.Examples.{one_binding, IsAttached};
 use pd_core::hub::{Core, Pass, bits_come_by_set_bit, every_run_is_good};
 use pd_core::word::{has_bit, is_attached, is_disposed, is_live, is_off, sum_of};
 use std::alloc::{AllocError, Global};
+use std::process::Abort;
 use std::thread;
 use std::thread::Threads;
 
@@ -90,7 +91,10 @@ const WORDS: [u64; 19] = [0, 0, 0, 1, 0, 0, 0, 0, 0, 0, 0, 0, 0, 0, 0, 0, 19, 1,
 fn each_kind_once(rt: HostRuntime) -> Result<(), AllocError> {
     let (contexts, found, words) = played(rt.alloc())?;
     assert_eq!(rt; contexts, 2);
-    assert_eq!(rt; found, Some(FOUND));
+    match found {
+        Some(found) => assert_eq!(rt; found.as_slice(), FOUND.as_slice()),
+        None => assert!(rt; false, "each step may be taken"),
+    }
     assert_eq!(rt; words.as_slice(), WORDS.as_slice());
     Ok(())
 }
@@ -101,22 +105,26 @@ fn laws_are_called() {
     bits_come_by_set_bit();
 }
 
+// What a word says: attached, disposed, off, live; and its sum.
+fn expect_word(rt: &impl Abort, word: u64, expected: [bool; 4], sum: u64) {
+    let found = [
+        is_attached(word),
+        is_disposed(word),
+        is_off(word),
+        is_live(word),
+    ];
+    assert_eq!(rt; found.as_slice(), expected.as_slice(), "at {word}");
+    assert_eq!(rt; sum_of(word), sum, "at {word}");
+}
+
 #[test]
 fn reads_words(rt: HostRuntime) {
-    for (word, attached, disposed, off, live, sum) in [
-        (0, false, false, false, false, 0),
-        (1, true, false, false, true, 0),
-        (2, false, true, false, false, 0),
-        (3, true, true, false, false, 0),
-        (21, true, false, true, true, 2),
-        (8 * 5 + 4, false, false, true, false, 5),
-    ] {
-        assert_eq!(rt; is_attached(word), attached, "at {word}");
-        assert_eq!(rt; is_disposed(word), disposed, "at {word}");
-        assert_eq!(rt; is_off(word), off, "at {word}");
-        assert_eq!(rt; is_live(word), live, "at {word}");
-        assert_eq!(rt; sum_of(word), sum, "at {word}");
-    }
+    expect_word(&rt, 0, [false, false, false, false], 0);
+    expect_word(&rt, 1, [true, false, false, true], 0);
+    expect_word(&rt, 2, [false, true, false, false], 0);
+    expect_word(&rt, 3, [true, true, false, false], 0);
+    expect_word(&rt, 21, [true, false, true, true], 2);
+    expect_word(&rt, 8 * 5 + 4, [false, false, true, false], 5);
     assert!(rt; has_bit(1 << 63, 63));
     assert!(rt; !has_bit(1 << 63, 62));
 }
@@ -158,18 +166,31 @@ fn dispose_twice<R: Threads + Sync>(
     (one, m.wrapping_add(n))
 }
 
+// Splits a fresh pass.
+fn halved(core: &Core, p: &mut Pass) -> Pass
+    requires { (p.old.id ≡ core.now.id) × (core.now.layout ≡ one_binding) × (p.old.view ≡ first_view) }
+    ensures { (p.new.id ≡ core.now.id) × (result.id ≡ core.now.id) }
+{
+    core.split(p)
+}
+
+// How often two threads found the one binding not disposed yet, and the words at the end.
+fn disposals<R: Threads + Sync>(rt: &R, alloc: Global) -> Result<(u64, Vec<u64>), AllocError> {
+    let (core, mut p) = fixture(alloc)?;
+    let q = halved(&core, &mut p);
+    let (last, firsts) = dispose_twice(rt, &core, p, q, 0);
+    let words = core.close(alloc, last)?;
+    Ok((firsts, words))
+}
+
+const DISPOSED: [u64; 19] = [0, 0, 0, 0, 0, 0, 0, 0, 0, 0, 0, 0, 0, 0, 0, 0, 2, 0, 0];
+
 #[test]
 fn one_thread_disposes(rt: HostRuntime) -> Result<(), AllocError> {
     for _ in 0..200 {
-        let (core, mut p) = fixture(rt.alloc())?;
-        let q = core.split(&mut p);
-        let (last, firsts) = dispose_twice(&rt, &core, p, q, 0);
+        let (firsts, words) = disposals(&rt, rt.alloc())?;
         assert_eq!(rt; firsts, 1);
-        let words = core.close(rt.alloc(), last)?;
-        assert_eq!(rt;
-            words.as_slice(),
-            [0, 0, 0, 0, 0, 0, 0, 0, 0, 0, 0, 0, 0, 0, 0, 0, 2, 0, 0].as_slice()
-        );
+        assert_eq!(rt; words.as_slice(), DISPOSED.as_slice());
     }
     Ok(())
 }

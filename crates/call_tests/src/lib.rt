@@ -16,15 +16,11 @@ mod outside;
 #[cfg(test)]
 mod pl0_lex;
 #[cfg(test)]
-mod pl0_parse;
-#[cfg(test)]
 mod pl0_read;
 #[cfg(test)]
 mod sections;
 #[cfg(test)]
 mod sl_lex;
-#[cfg(test)]
-mod sl_parse;
 #[cfg(test)]
 mod sl_read;
 #[cfg(test)]

@@ -3,9 +3,9 @@ ghost use Rattle.std.specs.Prelude.{◌≡◌, length, IfOk};
 ghost use Rattle.pd_plan.specs.Sound.{IsSound, ContextFits};
 
 use crate::fixtures::{source, text};
-use pd_load::{LoadRefusal, load};
+use pd_load::{LoadCause, LoadRefusal, load};
 use pd_plan::{ContextSpec, ExportSpec, Language, Plan, SourceSpec};
-use pd_sections::Stop;
+use pd_sections::{Refusal, Rule, Stop};
 use pd_tree::{Meaning, Program};
 use pd_values::{Items, NodeId};
 use std::alloc::{AllocError, Global};
@@ -94,83 +94,111 @@ pub fn loaded(
     Ok(load(alloc, sources.as_slice(), plan))
 }
 
-fn answer(rt: &impl Abort, alloc: Global, second: &str, plan: &Plan) -> Result<String, Fail>
+const FIRST: &str =
+    "function f() { } function f() { g(); } function main() { f(); println(h()); z; }";
+
+fn expect_items(
+    rt: &impl Abort,
+    alloc: Global,
+    second: &str,
+    plan: &Plan,
+    expected: &str,
+) -> Result<(), Fail>
     requires sound { IsSound plan.now }
     requires two { length plan.now.sources ≡ 2 }
 {
-    let first = "function f() { } function f() { g(); } function main() { f(); println(h()); z; }";
-    match loaded(rt, alloc, [first, second], plan)? {
-        Ok(program) => Ok(shown(alloc, &program)?),
-        Err(Stop::Refused(refusal)) => {
-            let (source, cause) = (refusal.source, refusal.cause);
-            Ok(format!(in alloc; "{source} {cause:?}")?)
-        }
-        Err(Stop::Memory) => Ok(String::from_str(alloc, "memory")?),
+    let program = loaded(rt, alloc, [FIRST, second], plan)??;
+    let found = shown(alloc, &program)?;
+    assert_eq!(rt; found.as_str(), expected);
+    Ok(())
+}
+
+fn expect_refusal(
+    rt: &impl Abort,
+    alloc: Global,
+    second: &str,
+    plan: &Plan,
+    expected: LoadRefusal,
+) -> Result<(), Fail>
+    requires sound { IsSound plan.now }
+    requires two { length plan.now.sources ≡ 2 }
+{
+    let refused = loaded(rt, alloc, [FIRST, second], plan)?.err();
+    assert_eq!(rt; refused, Some(Stop::Refused(expected)));
+    Ok(())
+}
+
+/// What refuses the export of this number, at the second source.
+fn no_such_item(export: u32) -> LoadRefusal {
+    LoadRefusal {
+        source: 1,
+        cause: LoadCause::NoSuchItem { export },
     }
 }
 
-#[test]
-fn answers(rt: HostRuntime) -> Result<(), Fail> {
-    let alloc = rt.alloc();
-    let good = "function g() { println(1); } function k() { g(); } function println(a) { }";
-    let rows = [
-        (good, ["g", "h"], ["g", "k"], "main", "4 2 0 5 6 4 "),
-        (
-            good,
-            ["g", "h"],
-            ["g", "k"],
-            "x",
-            "0 NoSuchEntry { context: 0 }",
-        ),
-        (
-            good,
-            ["g", "h"],
-            ["g", "x"],
-            "x",
-            "1 NoSuchItem { export: 1 }",
-        ),
-        (
-            good,
-            ["g", "g"],
-            ["g", "x"],
-            "x",
-            "1 DoubledExport { export: 1 }",
-        ),
-        (
-            "function g( { }",
-            ["g", "g"],
-            ["g", "x"],
-            "x",
-            "1 Spelling(Refusal { rule: Unexpected, at: 12 })",
-        ),
-    ];
-    for (second, names, items, entry, expected) in rows {
-        let plan = plan(alloc, Language::Sl, names, items, entry)?;
-        let found = answer(&rt, alloc, second, &plan)?;
-        assert_eq!(rt; found.as_str(), expected);
+/// What refuses the second source, at this byte.
+fn unexpected(at: u32) -> LoadRefusal {
+    let rule = Rule::Unexpected;
+    LoadRefusal {
+        source: 1,
+        cause: LoadCause::Spelling(Refusal { rule, at }),
     }
-    Ok(())
 }
+
+const FUNCTIONS: &str =
+    "function g() { println(1); } function k() { g(); } function println(a) { }";
+
+#[test]
+fn functions(rt: HostRuntime) -> Result<(), Fail> {
+    let alloc = rt.alloc();
+    let plan = plan(alloc, Language::Sl, ["g", "h"], ["g", "k"], "main")?;
+    expect_items(&rt, alloc, FUNCTIONS, &plan, "4 2 0 5 6 4 ")
+}
+
+#[test]
+fn absent_entry(rt: HostRuntime) -> Result<(), Fail> {
+    let alloc = rt.alloc();
+    let plan = plan(alloc, Language::Sl, ["g", "h"], ["g", "k"], "x")?;
+    let expected = LoadRefusal {
+        source: 0,
+        cause: LoadCause::NoSuchEntry { context: 0 },
+    };
+    expect_refusal(&rt, alloc, FUNCTIONS, &plan, expected)
+}
+
+#[test]
+fn absent_item(rt: HostRuntime) -> Result<(), Fail> {
+    let alloc = rt.alloc();
+    let plan = plan(alloc, Language::Sl, ["g", "h"], ["g", "x"], "x")?;
+    expect_refusal(&rt, alloc, FUNCTIONS, &plan, no_such_item(1))
+}
+
+#[test]
+fn doubled_export(rt: HostRuntime) -> Result<(), Fail> {
+    let alloc = rt.alloc();
+    let plan = plan(alloc, Language::Sl, ["g", "g"], ["g", "x"], "x")?;
+    let expected = LoadRefusal {
+        source: 1,
+        cause: LoadCause::DoubledExport { export: 1 },
+    };
+    expect_refusal(&rt, alloc, FUNCTIONS, &plan, expected)?;
+    expect_refusal(&rt, alloc, "function g( { }", &plan, unexpected(12))
+}
+
+const PROCEDURES: &str =
+    "procedure p; procedure q; call p; begin call q; call g end; procedure r; call h; call p.";
 
 #[test]
 fn procedures(rt: HostRuntime) -> Result<(), Fail> {
     let alloc = rt.alloc();
-    let good =
-        "procedure p; procedure q; call p; begin call q; call g end; procedure r; call h; call p.";
-    let rows = [
-        (good, ["g", "h"], ["p", "r"], "5 2 0 7 5 6 5 7 5 "),
-        (good, ["g", "h"], ["p", "q"], "1 NoSuchItem { export: 1 }"),
-        (
-            "begin end",
-            ["g", "h"],
-            ["p", "q"],
-            "1 Spelling(Refusal { rule: Unexpected, at: 9 })",
-        ),
-    ];
-    for (second, names, items, expected) in rows {
-        let plan = plan(alloc, Language::Pl0, names, items, "main")?;
-        let found = answer(&rt, alloc, second, &plan)?;
-        assert_eq!(rt; found.as_str(), expected);
-    }
-    Ok(())
+    let plan = plan(alloc, Language::Pl0, ["g", "h"], ["p", "r"], "main")?;
+    expect_items(&rt, alloc, PROCEDURES, &plan, "5 2 0 7 5 6 5 7 5 ")
+}
+
+#[test]
+fn inner_procedure(rt: HostRuntime) -> Result<(), Fail> {
+    let alloc = rt.alloc();
+    let plan = plan(alloc, Language::Pl0, ["g", "h"], ["p", "q"], "main")?;
+    expect_refusal(&rt, alloc, PROCEDURES, &plan, no_such_item(1))?;
+    expect_refusal(&rt, alloc, "begin end", &plan, unexpected(9))
 }

@@ -15,21 +15,16 @@ fn places_have_lines_columns_and_texts(rt: HostRuntime) -> Result<(), Fail> {
     let source = source_of(rt.alloc(), b"a\r\nb\rc\n\nd")?;
     assert_eq!(rt; source.name(), "a.sl");
     assert_eq!(rt; source.bytes(), b"a\r\nb\rc\n\nd".as_slice());
-    let places = [
-        (0, 1, 1),
-        (1, 1, 2),
-        (2, 1, 3),
-        (3, 2, 1),
-        (4, 2, 2),
-        (5, 3, 1),
-        (6, 3, 2),
-        (7, 4, 1),
-        (8, 5, 1),
-        (9, 5, 2),
-    ];
-    for (at, line, column) in places {
-        expect_place(&rt, &source, at, line, column);
-    }
+    expect_place(&rt, &source, 0, 1, 1);
+    expect_place(&rt, &source, 1, 1, 2);
+    expect_place(&rt, &source, 2, 1, 3);
+    expect_place(&rt, &source, 3, 2, 1);
+    expect_place(&rt, &source, 4, 2, 2);
+    expect_place(&rt, &source, 5, 3, 1);
+    expect_place(&rt, &source, 6, 3, 2);
+    expect_place(&rt, &source, 7, 4, 1);
+    expect_place(&rt, &source, 8, 5, 1);
+    expect_place(&rt, &source, 9, 5, 2);
     let section = Section {
         source: 0,
         start: 3,

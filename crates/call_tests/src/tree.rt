@@ -69,28 +69,28 @@ fn expect_has(rt: &impl Abort, program: &Program, n: u32, tag: Tag, expected: bo
     assert_eq!(rt; program.has(NodeId(n), tag), expected, "node {n}");
 }
 
-fn expect_rows(rt: &impl Abort, program: &Program) {
-    for (n, kind, tags) in [
-        (
-            2,
-            "call",
-            [Tag::Expression, Tag::Call, Tag::Statement].as_slice(),
-        ),
-        (4, "local", [Tag::Expression, Tag::ReadVariable].as_slice()),
-        (5, "while", [].as_slice()),
-        (20, "odd", [Tag::Expression, Tag::Statement].as_slice()),
-        (21, "sum", [Tag::Expression].as_slice()),
-    ] {
-        expect_label(rt, program, n, kind);
-        expect_tags(rt, program, n, tags);
-    }
-    for (n, kind, tag, has) in [
-        (8, "debugger", Tag::AlwaysHalt, true),
-        (13, "nothing", Tag::ReadVariable, false),
-    ] {
-        expect_label(rt, program, n, kind);
-        expect_has(rt, program, n, tag, has);
-    }
+fn expect_kinds(rt: &impl Abort, program: &Program) {
+    expect_label(rt, program, 2, "call");
+    expect_label(rt, program, 4, "local");
+    expect_label(rt, program, 5, "while");
+    expect_label(rt, program, 8, "debugger");
+    expect_label(rt, program, 13, "nothing");
+    expect_label(rt, program, 20, "odd");
+    expect_label(rt, program, 21, "sum");
+}
+
+fn expect_all_tags(rt: &impl Abort, program: &Program) {
+    let called = [Tag::Expression, Tag::Call, Tag::Statement];
+    expect_tags(rt, program, 2, called.as_slice());
+    let read = [Tag::Expression, Tag::ReadVariable];
+    expect_tags(rt, program, 4, read.as_slice());
+    expect_tags(rt, program, 5, &[]);
+    let condition = [Tag::Expression, Tag::Statement];
+    expect_tags(rt, program, 20, condition.as_slice());
+    let sum = [Tag::Expression];
+    expect_tags(rt, program, 21, sum.as_slice());
+    expect_has(rt, program, 8, Tag::AlwaysHalt, true);
+    expect_has(rt, program, 13, Tag::ReadVariable, false);
 }
 
 /// Rows of the tables of kinds, by nodes of two sources.
@@ -98,6 +98,7 @@ fn expect_rows(rt: &impl Abort, program: &Program) {
 fn tags_by_the_tables(rt: HostRuntime) -> Result<(), Fail> {
     let plan = plan(rt.alloc(), Language::Pl0, ["g", "h"], ["p", "p"], "main")?;
     let program = loaded(&rt, rt.alloc(), [SL, PL0], &plan)??;
-    expect_rows(&rt, &program);
+    expect_kinds(&rt, &program);
+    expect_all_tags(&rt, &program);
     Ok(())
 }
