@@ -1,5 +1,5 @@
 //! What a context keeps between its events, and how it serves one.
-ghost use Rattle.std.specs.Prelude.{◌≡◌, ℕ, ◌<◌, ◌≤◌, ◌+◌, ◌^◌, ◌∷◌, ◌++◌, [], true, false, IfOk, OnOk, IsTrue};
+ghost use Rattle.std.specs.Prelude.{◌≡◌, ℕ, ◌<◌, ◌≤◌, ◌+◌, ◌^◌, ◌∷◌, ◌++◌, [], true, false, IfOk, OnOk, OnErr, IsTrue, ◌↔◌};
 ghost use Rattle.pd_machine.specs.Events.{Scene as Frames};
 ghost use Rattle.pd_board.specs.Standing.{NothingDue};
 ghost use Rattle.pd_board.specs.Chain.{has};
@@ -104,14 +104,14 @@ pub(crate) fn enter<B: Board>(
 
 /// Whether an event is the Enter of this number.
 fn begins(event: &Event, number: u32) -> bool
-    ensures { IsTrue result → (event.now.number ≡ number) × (event.now.opened ≡ number) }
+    ensures { IsTrue result ↔ ((event.now.number ≡ number) × (event.now.opened ≡ number)) }
 {
     event.number == number && event.opened == number
 }
 
 /// Whether the node is below `nodes`.
 fn is_node(n: NodeId, nodes: u32) -> bool
-    ensures { IsTrue result → n < nodes }
+    ensures { IsTrue result ↔ (n < nodes) }
 {
     n.0 < nodes
 }
@@ -165,6 +165,8 @@ pub(crate) fn hear<B: Board>(
     requires nodes { nodes ≡ (B.standing board.old).nodes }
     requires kept { h.old.whole ≡ true → IsKept (B.standing board.old) h.old }
     ensures kept { h.new.whole ≡ true → IsKept (B.standing board.new) h.new }
+    ensures whole { OnOk result ((h.old.whole ≡ true) × (h.new.whole ≡ true)) }
+    ensures broken { OnErr result (h.new.whole ≡ false) }
     ensures told { OnOk result (h.new.heard.events ≡ h.old.heard.events ++ record { event = event.now; scene = scene.now } ∷ []) }
     ensures start { h.new.start ≡ h.old.start }
     ensures context { h.new.context ≡ h.old.context }

@@ -23,10 +23,10 @@ returns-clause-kept g c = λ scene.
     let mid : Standing = g.B.Board.standing c.load.new.board in
     let new : Standing = g.B.Board.standing c.meet_all.new.board in
     let test : ℕ → Bool = has c.in_ok-chain.chain in
-    let number : e.number ≡ h.next = (c.begins.ensures c.if-not-begins.false).0 in
-    let opened : e.opened ≡ h.next = (c.begins.ensures c.if-not-begins.false).1 in
+    let number : e.number ≡ h.next = (c.begins.ensures.0 c.if-not-begins.false).0 in
+    let opened : e.opened ≡ h.next = (c.begins.ensures.0 c.if-not-begins.false).1 in
     let few : h.next < 2 ^ 25 = omega (arith, c.if-h-ge-MOST_EVENTS.false) in
-    let node : e.node < s.nodes = omega (arith, c.requires.nodes, c.is_node.ensures c.if-not-is_node.false) in
+    let node : e.node < s.nodes = omega (arith, c.requires.nodes, c.is_node.ensures.0 c.if-not-is_node.false) in
     let rows : c.len.result ≡ length h.kept.logs.items = omega (arith, c.len.ensures, h.kept.logs.ok.0) in
     let o : Opened = record { event = e.number; on = c.meet_all.new.on } in
     let room : IsAmple test e.node mid h.kept = ample start h.next ts e test c.len.result s mid h.opens.items h.kept c.requires.kept few node rows c.in_ok-chain.ensures.loaded in
