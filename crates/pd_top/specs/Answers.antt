@@ -73,11 +73,11 @@ pub record Writing : Type 0 where
 
 -- what is written to a sink with these meanings, from one moment to another
 abbrev pub writing_of : {Sink : Type 0} → (Sink → Option (List ℕ)) → (Sink → List ℕ) → (Sink → ℕ) → Sink → Sink → Writing
-writing_of taken accepted faults old new = record {
+writing_of taken pieces faults old new = record {
   taken = taken old;
   now = taken new;
-  accepted = accepted old;
-  accepts = accepted new;
+  accepted = pieces old;
+  accepts = pieces new;
   before = faults old;
   after = faults new;
 }

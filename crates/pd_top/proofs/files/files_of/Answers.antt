@@ -1,4 +1,4 @@
-use Rattle.std.proofs.Common.{◌∙◌, ◌+◌, take, sym, subst, ap, arith, length}
+use Rattle.std.proofs.Common.{◌∙◌, ◌+◌, take, refl, sym, subst, arith, rules}
 use Rattle.std.proofs.lemmas.Result.{err_from_is_err_and}
 use Rattle.pd_top.specs.Stops.{StopsFetch}
 use Rattle.pd_top.specs.Files.{read_between, IsShort, AreSources}
@@ -6,6 +6,9 @@ use Rattle.pd_top.proofs.GivenLemmas.{grown_none, grown_more, read_first, read_l
 use Rattle.pd_top.proofs.FileLemmas.{sources_more}
 use Rattle.pd_top.proofs.StopLemmas.{fetch_within, fetch_stops}
 use Rattle.pd_top.proofs.files.files_of.Goals as goal
+
+pub loop-source-init : goal.loop-source-init
+loop-source-init g c = (search rules, refl, omega arith, grown_none (g.L.Library.given c.args.files.now))
 
 pub returns-in_err-file_named-clause-stopped : goal.returns-in_err-file_named-clause-stopped
 returns-in_err-file_named-clause-stopped g c =
@@ -29,6 +32,16 @@ returns-in_err-file_named-clause-stopped g c =
     (sources_within (read_between g.L.Library.held given c.args.files.now now) all front (take c.loop-source.source-index c.args.sources.now) c.loop-source.read.items
     c.loop-source.invariant.0)
     c.loop-source-test.true c.source-item.is (fetch_within (read_between g.L.Library.held given now next) all later s.name mid after last e stops))
+
+pub returns-in_err-file_named-clause-given : goal.returns-in_err-file_named-clause-given
+returns-in_err-file_named-clause-given g c =
+    let given = g.L.Library.given in
+    grown_more (given c.args.files.now) (given c.loop-source.files) (given c.file_named.new.files) c.loop-source.invariant.3 c.in_err-file_named.ensures.given
+
+pub returns-in_err-push-clause-given : goal.returns-in_err-push-clause-given
+returns-in_err-push-clause-given g c =
+    let given = g.L.Library.given in
+    grown_more (given c.args.files.now) (given c.loop-source.files) (given c.file_named.new.files) c.loop-source.invariant.3 c.in_ok-file_named.ensures.given
 
 pub loop-source-preserved : goal.loop-source-preserved
 loop-source-preserved g c =

@@ -1,7 +1,21 @@
-use Rattle.std.proofs.Common.{◌+◌, refl, arith}
-use Rattle.pd_top.specs.Answers.{writing_of}
-use Rattle.pd_top.proofs.PieceLemmas.{written_in_part, written_on, on_err}
+use Rattle.std.proofs.Common.{◌+◌, refl, sym, subst, arith}
+use Rattle.std.proofs.lemmas.List.{append-nil, take_all}
+use Rattle.pd_top.specs.Answers.{writing_of, IsWritten}
+use Rattle.pd_top.proofs.PieceLemmas.{append_known-nil, written_in_part, written_on, on_err}
 use Rattle.pd_top.proofs.top.write_whole.Goals as goal
+
+pub loop-at-init : goal.loop-at-init
+loop-at-init g c = (
+  omega arith,
+  record { taken = sym (append_known-nil (g.K.Sink.taken c.args.out.now)); accepted = sym (append-nil (g.K.Sink.accepted c.args.out.now)) },
+  omega arith,
+)
+
+pub returns-clause-whole : goal.returns-clause-whole
+returns-clause-whole g c =
+    let done = c.loop-at-test.false in
+    subst (IsWritten (writing_of g.K.Sink.taken g.K.Sink.accepted g.K.Sink.faults c.args.out.now c.loop-at.out))
+    (take_all c.loop-at.at c.args.bytes.now (omega (arith, done))) c.loop-at.invariant.1
 
 pub returns-in_err-write-clause-part : goal.returns-in_err-write-clause-part
 returns-in_err-write-clause-part g c =
