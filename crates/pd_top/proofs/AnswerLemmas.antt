@@ -12,10 +12,11 @@ use Rattle.pd_top.specs.declared.outcome.Unwritten.TheVariants as unwritten
 use Rattle.pd_top.specs.declared.outcome.Outcome.{Outcome}
 use Rattle.pd_top.specs.declared.outcome.Outcome.TheVariants.{Ran, Checked, Usage, Unreadable, TooLong, PlanRefused, SourceRefused, SinkFailed, Memory}
 use Rattle.pd_top.specs.Words.{file_of, on_file, command_named, command_of}
-use Rattle.pd_top.specs.Files.{Held}
+use Rattle.pd_top.specs.Files.{IsContent}
 use Rattle.pd_top.specs.Causes.{Cause, too_long, plan_refused, source_refused, accepted, IsCause}
-use Rattle.pd_top.specs.Answers.{Reading, Writing, IsTextOf, IsWhole, IsDueTo, IsReason, Tells, IsAnswer, IsDecided, is_ran}
+use Rattle.pd_top.specs.Answers.{Reading, files_read, Writing, IsTextOf, IsWhole, IsDueTo, IsReason, Tells, IsAnswer, IsDecided, is_ran}
 use Rattle.pd_top.specs.Stops.{StopsFile, StopsCommand, StopsWords, StopsAccepting}
+use Rattle.pd_top.proofs.GivenLemmas.{cause_within}
 use Rattle.pd_top.proofs.CauseLemmas.{Agrees, one_cause}
 
 -- ---- why nothing is written
@@ -33,7 +34,7 @@ named_stop words make asked Memory is stops = (make stops.0, is ∙ ap (on_file 
 named_stop words make asked outcome is stops = absurd stops
 
 pub accepting_reason : (reading : Reading) (command : Command) (outcome : Outcome) → command_of reading.words ≡ Ok command
-    → StopsAccepting reading.held command reading.before reading.after reading.last outcome → IsReason reading outcome
+    → StopsAccepting (files_read reading) command reading.before reading.after reading.last outcome → IsReason reading outcome
 accepting_reason reading command (Unreadable name) asked stops = (command, asked, stops.0, stops.1)
 accepting_reason reading command (TooLong name) asked stops = (command, asked, stops)
 accepting_reason reading command (PlanRefused refusal) asked stops = (command, asked, stops)
@@ -61,12 +62,13 @@ agreed command x y outcome agree answer = absurd agree
 
 -- the answer of one cause is that of the other
 decided_by : (reading : Reading) (outcome : Outcome) (command other : Command) (x y : Cause) (content : List ℕ → Option (List ℕ))
-    → command_of reading.words ≡ Ok command → IsCause reading.held command x → IsAnswer command x outcome
-    → reading.held ≡ Some content → command_of reading.words ≡ Ok other → IsCause reading.held other y → IsAnswer other y outcome
+    → command_of reading.words ≡ Ok command → IsCause (files_read reading) command x → IsAnswer command x outcome
+    → reading.held ≡ Some content → command_of reading.words ≡ Ok other → IsCause (IsContent reading.held) other y → IsAnswer other y outcome
 decided_by reading outcome command other x y content asked cause answer tells also_asked also =
     let same : command ≡ other = cc in
-    let first = subst (λ c. IsCause reading.held c x) same cause in
-    let agree : Agrees x y = one_cause content other x y (subst (λ h. IsCause h other x) tells first) (subst (λ h. IsCause h other y) tells also) in
+    let first = cause_within (files_read reading) (IsContent reading.held) (λ file bytes read. read.content) other x
+    (subst (λ c. IsCause (files_read reading) c x) same cause) in
+    let agree : Agrees x y = one_cause content other x y (subst (λ h. IsCause (IsContent h) other x) tells first) (subst (λ h. IsCause (IsContent h) other y) tells also) in
     agreed other x y outcome agree (subst (λ c. IsAnswer c x outcome) same answer)
 
 ran_answer : (command : Command) (plan : Plan) (program : Program) (report : Report) (text : List ℕ)
@@ -98,6 +100,6 @@ decided reading writing (PlanRefused refusal) (first, asked_first, due) = λ con
     inr (decided_by reading (PlanRefused refusal) first command (plan_refused refusal) cause content asked_first due refl tells asked also)
 decided reading writing (SourceRefused refusal) (first, asked_first, due) = λ content command cause tells asked also read_well wrote_well.
     inr (decided_by reading (SourceRefused refusal) first command (source_refused refusal) cause content asked_first due refl tells asked also)
-decided reading writing (SinkFailed answer) (text, n, whole, risen, written) = λ content command cause tells asked also read_well wrote_well.
+decided reading writing (SinkFailed answer) (text, whole, risen, written) = λ content command cause tells asked also read_well wrote_well.
     absurd (omega (arith, risen, wrote_well))
 decided reading writing Memory none = λ content command cause tells asked also read_well wrote_well. inl refl

@@ -18,7 +18,7 @@ use Rattle.pd_load.proofs.Exclusive.{loaded_not_refused}
 use Rattle.pd_top.proofs.RefusalLemmas.{one_refusal}
 use Rattle.pd_top.specs.declared.words.Command.{Command}
 use Rattle.pd_top.specs.declared.words.Command.TheVariants.{Trace, Run, Check}
-use Rattle.pd_top.specs.Files.{Held, IsContent, IsShort, IsLong, AreSources, IsReachedAmong}
+use Rattle.pd_top.specs.Files.{Files, IsContent, IsShort, IsLong, AreSources, IsReachedAmong}
 use Rattle.pd_top.specs.Causes.{plan_file, IsPlanRead, IsPlanOf, IsReached, IsFirstNotText, IsFirstRefusal, Cause, too_long, plan_refused, source_refused, accepted, IsCause}
 
 -- two causes that one answer serves
@@ -53,22 +53,22 @@ one_first_refusal plan ws a b (inr x) (inl y) = absurd (not_text_texts 0 ws b y 
 one_first_refusal plan ws a b (inr x) (inr y) = one_refusal plan ws a b x.0 x.1 y.1
 
 module _ (f : List ℕ → Option (List ℕ)) where
-  abbrev held : Held
-  held = Some f
+  abbrev held : Files
+  held = IsContent (Some f)
 
-  one_content : (file a b : List ℕ) → IsContent held file a → IsContent held file b → a ≡ b
+  one_content : (file a b : List ℕ) → held file a → held file b → a ≡ b
   one_content file a b x y = cc
 
   not_both : (file bytes : List ℕ) → IsShort held file bytes → IsLong held file → ⊥
   not_both file bytes short long =
-      let same : bytes ≡ long.bytes = one_content file bytes long.bytes short.content long.content in
+      let same : bytes ≡ long.bytes = one_content file bytes long.bytes short.has long.has in
       omega (arith, short.short, long.long, ap length same)
 
   -- ---- the plan
 
   one_read : (file : List ℕ) (r s : Read Plan) → IsPlanRead held file r → IsPlanRead held file s → r ≡ s
   one_read file r s x y =
-      let same : x.bytes ≡ y.bytes = one_content file x.bytes y.bytes x.short.content y.short.content in
+      let same : x.bytes ≡ y.bytes = one_content file x.bytes y.bytes x.short.has y.short.has in
       sym x.read_is ∙ ap plan_at same ∙ y.read_is
 
   one_plan : (command : Command) (p q : Plan) → IsPlanOf held command p → IsPlanOf held command q → p ≡ q
@@ -104,7 +104,7 @@ module _ (f : List ℕ → Option (List ℕ)) where
   one_written (s ∷ ss) (w ∷ ws) [] x y = absurd y
   one_written (s ∷ ss) (w ∷ ws) (v ∷ vs) x y =
       let names : w.name ≡ v.name = x.0 ∙ sym y.0 in
-      let bytes : w.bytes ≡ v.bytes = one_content s.name w.bytes v.bytes x.1.content y.1.content in
+      let bytes : w.bytes ≡ v.bytes = one_content s.name w.bytes v.bytes x.1.has y.1.has in
       let rest : ws ≡ vs = one_written ss ws vs x.2 y.2 in
       ap (λ n. record { name = n; bytes = w.bytes } ∷ ws) names ∙ ap (λ b. record { name = v.name; bytes = b } ∷ ws) bytes ∙ ap (λ r. v ∷ r) rest
 

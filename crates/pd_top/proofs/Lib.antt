@@ -1,4 +1,5 @@
 pub mod PieceLemmas
+pub mod GivenLemmas
 pub mod FileLemmas
 pub mod SourceLemmas
 pub mod LoadLemmas

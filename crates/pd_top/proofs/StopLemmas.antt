@@ -11,9 +11,10 @@ use Rattle.pd_load.specs.Tables.{IsText}
 use Rattle.pd_top.specs.declared.words.Command.{Command}
 use Rattle.pd_top.specs.declared.outcome.Outcome.{Outcome}
 use Rattle.pd_top.specs.declared.outcome.Outcome.TheVariants.{Unreadable, TooLong, PlanRefused, Memory}
-use Rattle.pd_top.specs.Files.{Held, IsFault, IsLong, AreSources}
+use Rattle.pd_top.specs.Files.{Files, IsFault, IsLong, AreSources}
 use Rattle.pd_top.specs.Causes.{plan_file, IsPlanOf, IsNotText}
 use Rattle.pd_top.specs.Stops.{StopsFetch, StopsPlan, StopsSources, StopsSource, StopsTexts, StopsAccepting}
+use Rattle.pd_top.proofs.GivenLemmas.{Within, long_within, among_within}
 use Rattle.pd_top.proofs.FileLemmas.{reached_next}
 use Rattle.pd_top.proofs.SourceLemmas.{not_text_at}
 
@@ -22,36 +23,52 @@ fault_since : (before mid after : ℕ) (last : Option (List ℕ)) (file : List �
 fault_since before mid after last file earlier fault = record { risen = omega (arith, earlier, fault.risen); at_file = fault.at_file }
 
 -- a source's file that isn't read, behind those that are
-pub fetch_stops : (held : Held) (ss : List SourceSpec) (ws : List Written) (i : ℕ) (s : SourceSpec) (before mid after : ℕ) (last : Option (List ℕ)) (outcome : Outcome)
-    → before ≤ mid → AreSources held (take i ss) ws → i < length ss → s ≡ get_or ss i s → StopsFetch held s.name mid after last outcome
-    → StopsSources held ss before after last outcome
-fetch_stops held ss ws i s before mid after last (Unreadable name) earlier are within there stops = (
-  reached_next held ss ws i s name are within there stops.0,
+pub fetch_stops : (files : Files) (ss : List SourceSpec) (ws : List Written) (i : ℕ) (s : SourceSpec) (before mid after : ℕ) (last : Option (List ℕ)) (outcome : Outcome)
+    → before ≤ mid → AreSources files (take i ss) ws → i < length ss → s ≡ get_or ss i s → StopsFetch files s.name mid after last outcome
+    → StopsSources files ss before after last outcome
+fetch_stops files ss ws i s before mid after last (Unreadable name) earlier are within there stops = (
+  reached_next files ss ws i s name are within there stops.0,
   subst (IsFault before after last) (sym stops.0) (fault_since before mid after last s.name earlier stops.1),
 )
-fetch_stops held ss ws i s before mid after last (TooLong name) earlier are within there stops =
-    (reached_next held ss ws i s name are within there stops.0, subst (IsLong held) (sym stops.0) stops.1)
-fetch_stops held ss ws i s before mid after last Memory earlier are within there stops = tt
-fetch_stops held ss ws i s before mid after last outcome earlier are within there stops = absurd stops
+fetch_stops files ss ws i s before mid after last (TooLong name) earlier are within there stops =
+    (reached_next files ss ws i s name are within there stops.0, subst (IsLong files) (sym stops.0) stops.1)
+fetch_stops files ss ws i s before mid after last Memory earlier are within there stops = tt
+fetch_stops files ss ws i s before mid after last outcome earlier are within there stops = absurd stops
+
+-- what stops a fetch that is a part of a call
+pub fetch_within : (P Q : Files) → Within P Q → (file : List ℕ) (before after : ℕ) (last : Option (List ℕ)) (outcome : Outcome) → StopsFetch P file before after last outcome
+    → StopsFetch Q file before after last outcome
+fetch_within P Q within file before after last (Unreadable name) stops = stops
+fetch_within P Q within file before after last (TooLong name) stops = (stops.0, long_within P Q within file stops.1)
+fetch_within P Q within file before after last Memory stops = tt
+fetch_within P Q within file before after last outcome stops = absurd stops
+
+-- what stops the fetch of the sources, which is a part of a call
+pub sources_stop_within : (P Q : Files) → Within P Q → (ss : List SourceSpec) (before after : ℕ) (last : Option (List ℕ)) (outcome : Outcome)
+    → StopsSources P ss before after last outcome → StopsSources Q ss before after last outcome
+sources_stop_within P Q within ss before after last (Unreadable name) stops = (among_within P Q within ss name stops.0, stops.1)
+sources_stop_within P Q within ss before after last (TooLong name) stops = (among_within P Q within ss name stops.0, long_within P Q within name stops.1)
+sources_stop_within P Q within ss before after last Memory stops = tt
+sources_stop_within P Q within ss before after last outcome stops = absurd stops
 
 -- the plan's file is the first of a command
-pub plan_stops : (held : Held) (command : Command) (file : List ℕ) (before after : ℕ) (last : Option (List ℕ)) (outcome : Outcome) → plan_file command ≡ Some file
-    → StopsPlan held file before after last outcome → StopsAccepting held command before after last outcome
-plan_stops held command file before after last (Unreadable name) is stops =
+pub plan_stops : (files : Files) (command : Command) (file : List ℕ) (before after : ℕ) (last : Option (List ℕ)) (outcome : Outcome) → plan_file command ≡ Some file
+    → StopsPlan files file before after last outcome → StopsAccepting files command before after last outcome
+plan_stops files command file before after last (Unreadable name) is stops =
     (inl (is ∙ ap Some (sym stops.0)), subst (IsFault before after last) (sym stops.0) stops.1)
-plan_stops held command file before after last (TooLong name) is stops = (inl (is ∙ ap Some (sym stops.0)), subst (IsLong held) (sym stops.0) stops.1)
-plan_stops held command file before after last (PlanRefused refusal) is stops = (file, is, stops)
-plan_stops held command file before after last Memory is stops = tt
-plan_stops held command file before after last outcome is stops = absurd stops
+plan_stops files command file before after last (TooLong name) is stops = (inl (is ∙ ap Some (sym stops.0)), subst (IsLong files) (sym stops.0) stops.1)
+plan_stops files command file before after last (PlanRefused refusal) is stops = (file, is, stops)
+plan_stops files command file before after last Memory is stops = tt
+plan_stops files command file before after last outcome is stops = absurd stops
 
 -- the files of the sources come behind the plan
-pub sources_stop : (held : Held) (command : Command) (plan : Plan) (before mid after : ℕ) (last : Option (List ℕ)) (outcome : Outcome) → before ≤ mid
-    → IsPlanOf held command plan → StopsSources held plan.sources mid after last outcome → StopsAccepting held command before after last outcome
-sources_stop held command plan before mid after last (Unreadable name) earlier is stops =
+pub sources_stop : (files : Files) (command : Command) (plan : Plan) (before mid after : ℕ) (last : Option (List ℕ)) (outcome : Outcome) → before ≤ mid
+    → IsPlanOf files command plan → StopsSources files plan.sources mid after last outcome → StopsAccepting files command before after last outcome
+sources_stop files command plan before mid after last (Unreadable name) earlier is stops =
     (inr (plan, is, stops.0), fault_since before mid after last name earlier stops.1)
-sources_stop held command plan before mid after last (TooLong name) earlier is stops = (inr (plan, is, stops.0), stops.1)
-sources_stop held command plan before mid after last Memory earlier is stops = tt
-sources_stop held command plan before mid after last outcome earlier is stops = absurd stops
+sources_stop files command plan before mid after last (TooLong name) earlier is stops = (inr (plan, is, stops.0), stops.1)
+sources_stop files command plan before mid after last Memory earlier is stops = tt
+sources_stop files command plan before mid after last outcome earlier is stops = absurd stops
 
 -- the source behind those that are UTF-8 isn't made
 pub source_stops : (all ws : List Written) (w : Written) (stop : Stop LoadRefusal) → ws ≡ take (length ws) all → length ws < length all

@@ -1,8 +1,9 @@
 -- Definition: what the answers of the top call say.
-use Rattle.std.specs.Prelude.{◌≡◌, ◌<◌, ◌⊎◌, ℕ, List, [], ◌∷◌, take, Option, Some, Bool, true, false, if◌then◌else◌, codes, Ok, Err}
+use Rattle.std.specs.Prelude.{◌≡◌, ◌<◌, ◌≤◌, ◌⊎◌, ℕ, List, [], ◌∷◌, ◌++◌, length, take, Option, Some, Bool, true, false, if◌then◌else◌, codes, Ok, Err}
 use Rattle.std.specs.Io.KnownBytes.{append_known}
 use Rattle.std.specs.List.{list_all}
 use Rattle.std.specs.Fmt.{decimal}
+use Rattle.pd_outside.specs.Files.{Given}
 use Rattle.pd_values.specs.declared.value.End.{End}
 use Rattle.pd_values.specs.declared.value.End.TheVariants.{Done}
 use Rattle.pd_sections.specs.declared.Rule.{Rule}
@@ -28,29 +29,72 @@ use Rattle.pd_top.specs.declared.outcome.Unwritten.TheVariants as unwritten
 use Rattle.pd_top.specs.declared.outcome.Outcome.{Outcome}
 use Rattle.pd_top.specs.declared.outcome.Outcome.TheVariants.{Ran, Checked, Usage, Unreadable, TooLong, PlanRefused, SourceRefused, SinkFailed, Memory}
 use Rattle.pd_top.specs.Words.{command_of}
-use Rattle.pd_top.specs.Files.{Held, IsFault}
+use Rattle.pd_top.specs.Files.{Files, Held, IsContent, IsRead, IsFault}
 use Rattle.pd_top.specs.Causes.{Cause, too_long, plan_refused, source_refused, accepted, IsReached, IsCause}
 
 -- ---- what was read and written
 
--- the words; what the library holds, its faults before and after, and the name of the last one
+-- the words; what the library holds, where it tells that; its answers and its faults before and after, and the name of the last fault
 pub record Reading : Type 0 where
   pub words : List (List ℕ)
   pub held : Held
+  pub given : List Given
+  pub gives : List Given
   pub before : ℕ
   pub after : ℕ
   pub last : Option (List ℕ)
 
--- the bytes that the sink had taken and has taken, where it tells that, and its faults before and after
+-- what is read of these words and of a library with these meanings, from one moment to another
+abbrev pub reading_of : {Library : Type 0} → (Library → Held) → (Library → List Given) → (Library → ℕ) → (Library → Option (List ℕ))
+    → List (List ℕ) → Library → Library → Reading
+reading_of held given faults last_fault words old new = record {
+  words = words;
+  held = held old;
+  given = given old;
+  gives = given new;
+  before = faults old;
+  after = faults new;
+  last = last_fault new;
+}
+
+-- the files as they were read
+abbrev pub files_read : Reading → Files
+files_read reading = IsRead reading.held reading.given reading.gives
+
+-- the bytes that the sink had taken and has taken, where it tells that; those of the pieces that it had accepted and has accepted; and
+-- its faults before and after
 pub record Writing : Type 0 where
   pub taken : Option (List ℕ)
   pub now : Option (List ℕ)
+  pub accepted : List ℕ
+  pub accepts : List ℕ
   pub before : ℕ
   pub after : ℕ
 
--- these bytes were added
-abbrev pub IsWritten : Writing → List ℕ → Type 0
-IsWritten writing bytes = writing.now ≡ append_known writing.taken bytes
+-- what is written to a sink with these meanings, from one moment to another
+abbrev pub writing_of : {Sink : Type 0} → (Sink → Option (List ℕ)) → (Sink → List ℕ) → (Sink → ℕ) → Sink → Sink → Writing
+writing_of taken pieces faults old new = record {
+  taken = taken old;
+  now = taken new;
+  accepted = pieces old;
+  accepts = pieces new;
+  before = faults old;
+  after = faults new;
+}
+
+-- these bytes were added, in pieces that were all accepted
+pub record IsWritten (writing : Writing) (bytes : List ℕ) : Type 0 where
+  pub taken : writing.now ≡ append_known writing.taken bytes
+  pub accepted : writing.accepts ≡ writing.accepted ++ bytes
+
+-- some first bytes were added; the accepted pieces are no more than these, and not all
+pub record IsWrittenInPart (writing : Writing) (bytes : List ℕ) : Type 0 where
+  pub first : ℕ
+  pub pieces : ℕ
+  pub within : pieces ≤ first
+  pub short : pieces < length bytes
+  pub taken : writing.now ≡ append_known writing.taken (take first bytes)
+  pub accepted : writing.accepts ≡ writing.accepted ++ take pieces bytes
 
 -- ---- texts
 
@@ -63,25 +107,25 @@ IsTextOf (Check file) plan program unwritten.Checked text = text ≡ check_line 
 IsTextOf _ plan program _ text = ⊥
 
 -- the words are a command whose plan and sources are accepted, and this is its answer with its whole text
-pub record IsWhole (words : List (List ℕ)) (held : Held) (answer : Unwritten) (text : List ℕ) : Type 0 where
+pub record IsWhole (reading : Reading) (answer : Unwritten) (text : List ℕ) : Type 0 where
   pub command : Command
   pub plan : Plan
   pub program : Program
-  pub asked : command_of words ≡ Ok command
-  pub accepts : IsCause held command (accepted plan program)
+  pub asked : command_of reading.words ≡ Ok command
+  pub accepts : IsCause (files_read reading) command (accepted plan program)
   pub text_is : IsTextOf command plan program answer text
 
 -- ---- what each answer says
 
--- the words are a command whose files have this cause
+-- the words are a command, and the files that were read have this cause
 abbrev pub IsDueTo : Reading → Cause → Type 0
-IsDueTo reading cause = (command : Command) × (command_of reading.words ≡ Ok command) × IsCause reading.held command cause
+IsDueTo reading cause = (command : Command) × (command_of reading.words ≡ Ok command) × IsCause (files_read reading) command cause
 
 -- the answers with which nothing is written
 abbrev pub IsReason : Reading → Outcome → Type 0
 IsReason reading (Usage fault) = command_of reading.words ≡ Err fault
 IsReason reading (Unreadable name) =
-    (command : Command) × (command_of reading.words ≡ Ok command) × IsReached reading.held command name
+    (command : Command) × (command_of reading.words ≡ Ok command) × IsReached (files_read reading) command name
     × IsFault reading.before reading.after reading.last name
 IsReason reading (TooLong name) = IsDueTo reading (too_long name)
 IsReason reading (PlanRefused refusal) = IsDueTo reading (plan_refused refusal)
@@ -89,13 +133,12 @@ IsReason reading (SourceRefused refusal) = IsDueTo reading (source_refused refus
 IsReason reading Memory = Unit {0}
 IsReason reading _ = ⊥
 
--- what the answer says of what was read and written; where the sink failed, it took some first bytes of the text
+-- what the answer says of what was read and written
 abbrev pub Tells : Reading → Writing → Outcome → Type 0
-Tells reading writing (Ran report) = (text : List ℕ) × IsWhole reading.words reading.held (unwritten.Ran report) text × IsWritten writing text
-Tells reading writing Checked = (line : List ℕ) × IsWhole reading.words reading.held unwritten.Checked line × IsWritten writing line
+Tells reading writing (Ran report) = (text : List ℕ) × IsWhole reading (unwritten.Ran report) text × IsWritten writing text
+Tells reading writing Checked = (line : List ℕ) × IsWhole reading unwritten.Checked line × IsWritten writing line
 Tells reading writing (SinkFailed answer) =
-    (text : List ℕ) × (n : ℕ) × IsWhole reading.words reading.held answer text
-    × (writing.before < writing.after) × IsWritten writing (take n text)
+    (text : List ℕ) × IsWhole reading answer text × (writing.before < writing.after) × IsWrittenInPart writing text
 Tells reading writing outcome = IsReason reading outcome
 
 -- whether the answer is one with which nothing was asked of the sink
@@ -124,7 +167,7 @@ IsAnswer command (accepted plan program) outcome = is_ran outcome ≡ true
 abbrev pub IsDecided : Reading → Writing → Outcome → Type 0
 IsDecided reading writing outcome =
     (content : List ℕ → Option (List ℕ)) (command : Command) (cause : Cause)
-    → reading.held ≡ Some content → command_of reading.words ≡ Ok command → IsCause reading.held command cause
+    → reading.held ≡ Some content → command_of reading.words ≡ Ok command → IsCause (IsContent reading.held) command cause
     → reading.after ≡ reading.before → writing.after ≡ writing.before
     → (outcome ≡ Memory) ⊎ IsAnswer command cause outcome
 

@@ -15,7 +15,7 @@ use Rattle.pd_load.specs.Loading.{IsLoaded, IsRefused}
 use Rattle.pd_top.specs.declared.words.Command.{Command}
 use Rattle.pd_top.specs.declared.words.Command.TheVariants.{Trace, Run, Check}
 use Rattle.pd_top.specs.Plans.{trace_plan}
-use Rattle.pd_top.specs.Files.{Held, IsShort, IsLong, AreSources, IsReachedAmong}
+use Rattle.pd_top.specs.Files.{Files, IsShort, IsLong, AreSources, IsReachedAmong}
 
 -- ---- the plan
 
@@ -26,24 +26,24 @@ plan_file (Run file) = Some file
 plan_file (Check file) = Some file
 
 -- what the bytes of the plan's file are: a plan, or the first broken rule
-pub record IsPlanRead (held : Held) (file : List ℕ) (read : Read Plan) : Type 0 where
+pub record IsPlanRead (files : Files) (file : List ℕ) (read : Read Plan) : Type 0 where
   pub bytes : List ℕ
-  pub short : IsShort held file bytes
+  pub short : IsShort files file bytes
   pub read_is : plan_at bytes ≡ read
 
 -- the plan that the command is about
-abbrev pub IsPlanOf : Held → Command → Plan → Type 0
-IsPlanOf held (Trace file) plan = plan ≡ trace_plan file
-IsPlanOf held (Run file) plan = IsPlanRead held file (Ok plan)
-IsPlanOf held (Check file) plan = IsPlanRead held file (Ok plan)
+abbrev pub IsPlanOf : Files → Command → Plan → Type 0
+IsPlanOf files (Trace file) plan = plan ≡ trace_plan file
+IsPlanOf files (Run file) plan = IsPlanRead files file (Ok plan)
+IsPlanOf files (Check file) plan = IsPlanRead files file (Ok plan)
 
 -- ---- the files in their order: that of the plan, then the sources of the plan
 
 -- the command comes to read this file: all before it are short enough, and the bytes of the plan's file are a plan
-abbrev pub IsReached : Held → Command → List ℕ → Type 0
-IsReached held command file =
+abbrev pub IsReached : Files → Command → List ℕ → Type 0
+IsReached files command file =
     (plan_file command ≡ Some file)
-    ⊎ ((plan : Plan) × IsPlanOf held command plan × IsReachedAmong held plan.sources file)
+    ⊎ ((plan : Plan) × IsPlanOf files command plan × IsReachedAmong files plan.sources file)
 
 -- ---- the sources, all of which are read
 
@@ -72,14 +72,14 @@ pub data Cause : Type 0 where
   accepted : Plan → Program → Cause
 
 -- at most one of these for each command and each content of the files, where those that the command comes to are held
-abbrev pub IsCause : Held → Command → Cause → Type 0
-IsCause held command (too_long file) = IsReached held command file × IsLong held file
-IsCause held command (plan_refused refusal) =
-    (file : List ℕ) × (plan_file command ≡ Some file) × IsPlanRead held file (Err refusal)
-IsCause held command (source_refused refusal) =
+abbrev pub IsCause : Files → Command → Cause → Type 0
+IsCause files command (too_long file) = IsReached files command file × IsLong files file
+IsCause files command (plan_refused refusal) =
+    (file : List ℕ) × (plan_file command ≡ Some file) × IsPlanRead files file (Err refusal)
+IsCause files command (source_refused refusal) =
     (plan : Plan) × (sources : List Written)
-    × IsPlanOf held command plan × AreSources held plan.sources sources × IsFirstRefusal plan sources refusal
-IsCause held command (accepted plan program) =
+    × IsPlanOf files command plan × AreSources files plan.sources sources × IsFirstRefusal plan sources refusal
+IsCause files command (accepted plan program) =
     (sources : List Written)
-    × IsPlanOf held command plan × AreSources held plan.sources sources
+    × IsPlanOf files command plan × AreSources files plan.sources sources
     × AllByRecursion IsText sources × IsLoaded plan sources program

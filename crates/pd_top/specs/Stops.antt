@@ -12,7 +12,7 @@ use Rattle.pd_top.specs.declared.words.WordFault.{WordFault}
 use Rattle.pd_top.specs.declared.outcome.Outcome.{Outcome}
 use Rattle.pd_top.specs.declared.outcome.Outcome.TheVariants.{Usage, Unreadable, TooLong, PlanRefused, SourceRefused, Memory}
 use Rattle.pd_top.specs.Words.{file_of, command_of}
-use Rattle.pd_top.specs.Files.{Held, IsFault, IsLong, IsReachedAmong}
+use Rattle.pd_top.specs.Files.{Files, IsFault, IsLong, IsReachedAmong}
 use Rattle.pd_top.specs.Causes.{IsPlanRead, IsReached, IsNotText, IsFirstNotText, IsFirstRefusal, IsCause, too_long, plan_refused, source_refused}
 
 -- ---- words
@@ -36,23 +36,23 @@ StopsWords words outcome = StopsCommand (command_of words) outcome
 -- ---- files; the library had so many faults before, has so many after, and this is the last one's name
 
 -- what stops the fetch of a file; `before`, `after` and `last` are the library's count of faults and its last fault
-abbrev pub StopsFetch : Held → List ℕ → ℕ → ℕ → Option (List ℕ) → Outcome → Type 0
-StopsFetch held file before after last (Unreadable name) = (name ≡ file) × IsFault before after last file
-StopsFetch held file before after last (TooLong name) = (name ≡ file) × IsLong held file
-StopsFetch held file before after last Memory = Unit {0}
-StopsFetch held file before after last _ = ⊥
+abbrev pub StopsFetch : Files → List ℕ → ℕ → ℕ → Option (List ℕ) → Outcome → Type 0
+StopsFetch files file before after last (Unreadable name) = (name ≡ file) × IsFault before after last file
+StopsFetch files file before after last (TooLong name) = (name ≡ file) × IsLong files file
+StopsFetch files file before after last Memory = Unit {0}
+StopsFetch files file before after last _ = ⊥
 
 -- what stops the fetch of the sources, one after another
-abbrev pub StopsSources : Held → List SourceSpec → ℕ → ℕ → Option (List ℕ) → Outcome → Type 0
-StopsSources held sources before after last (Unreadable name) = IsReachedAmong held sources name × IsFault before after last name
-StopsSources held sources before after last (TooLong name) = IsReachedAmong held sources name × IsLong held name
-StopsSources held sources before after last Memory = Unit {0}
-StopsSources held sources before after last _ = ⊥
+abbrev pub StopsSources : Files → List SourceSpec → ℕ → ℕ → Option (List ℕ) → Outcome → Type 0
+StopsSources files sources before after last (Unreadable name) = IsReachedAmong files sources name × IsFault before after last name
+StopsSources files sources before after last (TooLong name) = IsReachedAmong files sources name × IsLong files name
+StopsSources files sources before after last Memory = Unit {0}
+StopsSources files sources before after last _ = ⊥
 
 -- what stops the reading of the plan's file
-abbrev pub StopsPlan : Held → List ℕ → ℕ → ℕ → Option (List ℕ) → Outcome → Type 0
-StopsPlan held file before after last (PlanRefused refusal) = IsPlanRead held file (Err refusal)
-StopsPlan held file before after last outcome = StopsFetch held file before after last outcome
+abbrev pub StopsPlan : Files → List ℕ → ℕ → ℕ → Option (List ℕ) → Outcome → Type 0
+StopsPlan files file before after last (PlanRefused refusal) = IsPlanRead files file (Err refusal)
+StopsPlan files file before after last outcome = StopsFetch files file before after last outcome
 
 -- ---- loading
 
@@ -74,10 +74,10 @@ StopsLoad plan sources loading.Memory = Unit {0}
 -- ---- plan and sources
 
 -- what stops a command before there are a plan and a program
-abbrev pub StopsAccepting : Held → Command → ℕ → ℕ → Option (List ℕ) → Outcome → Type 0
-StopsAccepting held command before after last (Unreadable name) = IsReached held command name × IsFault before after last name
-StopsAccepting held command before after last (TooLong name) = IsCause held command (too_long name)
-StopsAccepting held command before after last (PlanRefused refusal) = IsCause held command (plan_refused refusal)
-StopsAccepting held command before after last (SourceRefused refusal) = IsCause held command (source_refused refusal)
-StopsAccepting held command before after last Memory = Unit {0}
-StopsAccepting held command before after last _ = ⊥
+abbrev pub StopsAccepting : Files → Command → ℕ → ℕ → Option (List ℕ) → Outcome → Type 0
+StopsAccepting files command before after last (Unreadable name) = IsReached files command name × IsFault before after last name
+StopsAccepting files command before after last (TooLong name) = IsCause files command (too_long name)
+StopsAccepting files command before after last (PlanRefused refusal) = IsCause files command (plan_refused refusal)
+StopsAccepting files command before after last (SourceRefused refusal) = IsCause files command (source_refused refusal)
+StopsAccepting files command before after last Memory = Unit {0}
+StopsAccepting files command before after last _ = ⊥

@@ -1,6 +1,7 @@
 //! From a command to its plan and program.
 ghost use Rattle.std.specs.Prelude.{◌≡◌, ◌≤◌, ◌<◌, length, Ok, IfOk, IfErr};
 ghost use Rattle.pd_plan_json.specs.Served.{IsServed};
+ghost use Rattle.pd_top.specs.Files.{read_between, IsGrown};
 ghost use Rattle.pd_top.specs.Causes.{IsPlanRead, IsPlanOf, IsCause, accepted};
 ghost use Rattle.pd_top.specs.Stops.{StopsPlan, StopsAccepting};
 
@@ -26,10 +27,11 @@ pub(crate) struct Accepted {
 
 // The plan in the file of this name.
 fn plan_in<L: Library>(alloc: Global, name: &str, files: &mut L) -> Result<Plan, Outcome>
-    ensures plan { IfOk result (λ plan. IsPlanRead (L.held files.old) name.now (Ok plan)) }
+    ensures plan { IfOk result (λ plan. IsPlanRead (read_between L.held L.given files.old files.new) name.now (Ok plan)) }
     ensures served { IfOk result IsServed }
-    ensures stopped { IfErr result (StopsPlan (L.held files.old) name.now (L.faults files.old) (L.faults files.new) (L.last_fault files.new)) }
+    ensures stopped { IfErr result (StopsPlan (read_between L.held L.given files.old files.new) name.now (L.faults files.old) (L.faults files.new) (L.last_fault files.new)) }
     ensures held { L.held files.new ≡ L.held files.old }
+    ensures given { IsGrown (L.given files.old) (L.given files.new) }
     ensures count { L.faults files.old ≤ L.faults files.new }
 {
     let bytes = fetched(alloc, name, files)?;
@@ -42,10 +44,11 @@ fn plan_in<L: Library>(alloc: Global, name: &str, files: &mut L) -> Result<Plan,
 
 // The plan of a command.
 fn plan_of<L: Library>(alloc: Global, command: &Command, files: &mut L) -> Result<Plan, Outcome>
-    ensures plan { IfOk result (IsPlanOf (L.held files.old) command.now) }
+    ensures plan { IfOk result (IsPlanOf (read_between L.held L.given files.old files.new) command.now) }
     ensures served { IfOk result IsServed }
-    ensures stopped { IfErr result (StopsAccepting (L.held files.old) command.now (L.faults files.old) (L.faults files.new) (L.last_fault files.new)) }
+    ensures stopped { IfErr result (StopsAccepting (read_between L.held L.given files.old files.new) command.now (L.faults files.old) (L.faults files.new) (L.last_fault files.new)) }
     ensures held { L.held files.new ≡ L.held files.old }
+    ensures given { IsGrown (L.given files.old) (L.given files.new) }
     ensures count { L.faults files.old ≤ L.faults files.new }
 {
     match command {
@@ -60,11 +63,12 @@ pub(crate) fn accept<L: Library>(
     command: &Command,
     files: &mut L,
 ) -> Result<Accepted, Outcome>
-    ensures accepted { IfOk result (λ both. IsCause (L.held files.old) command.now (accepted both.plan both.program)) }
+    ensures accepted { IfOk result (λ both. IsCause (read_between L.held L.given files.old files.new) command.now (accepted both.plan both.program)) }
     ensures served { IfOk result (λ both. IsServed both.plan) }
     ensures entry { IfOk result (λ both. 0 < length both.program.entries) }
-    ensures stopped { IfErr result (StopsAccepting (L.held files.old) command.now (L.faults files.old) (L.faults files.new) (L.last_fault files.new)) }
+    ensures stopped { IfErr result (StopsAccepting (read_between L.held L.given files.old files.new) command.now (L.faults files.old) (L.faults files.new) (L.last_fault files.new)) }
     ensures held { L.held files.new ≡ L.held files.old }
+    ensures given { IsGrown (L.given files.old) (L.given files.new) }
     ensures count { L.faults files.old ≤ L.faults files.new }
 {
     let plan = plan_of(alloc, command, files)?;

@@ -1,6 +1,6 @@
 //! The files of a command.
 ghost use Rattle.std.specs.Prelude.{◌≡◌, ◌≤◌, vec_len, IfOk, IfErr};
-ghost use Rattle.pd_top.specs.Files.{IsShort, AreSources};
+ghost use Rattle.pd_top.specs.Files.{read_between, IsGrown, IsShort, AreSources};
 ghost use Rattle.pd_top.specs.Stops.{StopsFetch, StopsSources};
 
 use crate::outcome::Outcome;
@@ -44,10 +44,11 @@ pub(crate) fn fetched<L: Library>(
     name: &str,
     files: &mut L,
 ) -> Result<Vec<u8>, Outcome>
-    ensures content { IfOk result (λ bytes. IsShort (L.held files.old) name.now bytes.items) }
+    ensures content { IfOk result (λ bytes. IsShort (read_between L.held L.given files.old files.new) name.now bytes.items) }
     ensures short { IfOk result (λ bytes. vec_len bytes ≤ 1048576) }
-    ensures stopped { IfErr result (StopsFetch (L.held files.old) name.now (L.faults files.old) (L.faults files.new) (L.last_fault files.new)) }
+    ensures stopped { IfErr result (StopsFetch (read_between L.held L.given files.old files.new) name.now (L.faults files.old) (L.faults files.new) (L.last_fault files.new)) }
     ensures held { L.held files.new ≡ L.held files.old }
+    ensures given { IsGrown (L.given files.old) (L.given files.new) }
     ensures count { L.faults files.old ≤ L.faults files.new }
 {
     let bytes = match files.fetch(alloc, name, MOST_FETCHED) {
@@ -64,9 +65,10 @@ pub(crate) fn fetched<L: Library>(
 // The file of this name, with its bytes.
 fn file_named<L: Library>(alloc: Global, name: &str, files: &mut L) -> Result<File, Outcome>
     ensures name { IfOk result (λ file. file.name ≡ name.now) }
-    ensures content { IfOk result (λ file. IsShort (L.held files.old) name.now file.bytes) }
-    ensures stopped { IfErr result (StopsFetch (L.held files.old) name.now (L.faults files.old) (L.faults files.new) (L.last_fault files.new)) }
+    ensures content { IfOk result (λ file. IsShort (read_between L.held L.given files.old files.new) name.now file.bytes) }
+    ensures stopped { IfErr result (StopsFetch (read_between L.held L.given files.old files.new) name.now (L.faults files.old) (L.faults files.new) (L.last_fault files.new)) }
     ensures held { L.held files.new ≡ L.held files.old }
+    ensures given { IsGrown (L.given files.old) (L.given files.new) }
     ensures count { L.faults files.old ≤ L.faults files.new }
 {
     let bytes = fetched(alloc, name, files)?;
@@ -80,9 +82,10 @@ pub(crate) fn files_of<L: Library>(
     sources: &[SourceSpec],
     files: &mut L,
 ) -> Result<Vec<File>, Outcome>
-    ensures sources { IfOk result (λ read. AreSources (L.held files.old) sources.now read.items) }
-    ensures stopped { IfErr result (StopsSources (L.held files.old) sources.now (L.faults files.old) (L.faults files.new) (L.last_fault files.new)) }
+    ensures sources { IfOk result (λ read. AreSources (read_between L.held L.given files.old files.new) sources.now read.items) }
+    ensures stopped { IfErr result (StopsSources (read_between L.held L.given files.old files.new) sources.now (L.faults files.old) (L.faults files.new) (L.last_fault files.new)) }
     ensures held { L.held files.new ≡ L.held files.old }
+    ensures given { IsGrown (L.given files.old) (L.given files.new) }
     ensures count { L.faults files.old ≤ L.faults files.new }
 {
     let mut read = Vec::new(alloc);

@@ -1,10 +1,10 @@
 //! The top call.
-ghost use Rattle.std.specs.Prelude.{◌≡◌, ◌≤◌, ◌<◌, ℕ, true, false, Err, take, length, IfOk, IfErr, OnOk, OnErr};
-ghost use Rattle.std.specs.Io.KnownBytes.{append_known};
+ghost use Rattle.std.specs.Prelude.{◌≡◌, ◌≤◌, ◌<◌, ℕ, true, false, Err, length, IfOk, IfErr, OnOk, OnErr};
 ghost use Rattle.pd_plan_json.specs.Served.{IsServed};
 ghost use Rattle.pd_top.specs.declared.words.WordFault.{WordFault};
 ghost use Rattle.pd_top.specs.Words.{texts, command_of};
-ghost use Rattle.pd_top.specs.Answers.{Reading, IsTextOf, IsWhole, IsReason, Tells, IsDecided, is_unwritten};
+ghost use Rattle.pd_top.specs.Files.{IsGrown};
+ghost use Rattle.pd_top.specs.Answers.{Reading, reading_of, writing_of, IsWritten, IsWrittenInPart, IsTextOf, IsWhole, IsReason, Tells, IsDecided, is_unwritten};
 
 use crate::accepting::{Accepted, accept};
 use crate::outcome::{Outcome, Unwritten};
@@ -21,8 +21,8 @@ const PIECE: usize = 4_096;
 
 // Writes the bytes, piece after piece.
 fn write_whole<K: Sink>(out: &mut K, bytes: &[u8]) -> Result<(), Failed>
-    ensures whole { OnOk result (K.taken out.new ≡ append_known (K.taken out.old) bytes.now) }
-    ensures part { OnErr result ((n : ℕ) × (K.taken out.new ≡ append_known (K.taken out.old) (take n bytes.now))) }
+    ensures whole { OnOk result (IsWritten (writing_of K.taken K.accepted K.faults out.old out.new) bytes.now) }
+    ensures part { OnErr result (IsWrittenInPart (writing_of K.taken K.accepted K.faults out.old out.new) bytes.now) }
     ensures failed { OnErr result (K.faults out.old < K.faults out.new) }
     ensures count { K.faults out.old ≤ K.faults out.new }
 {
@@ -77,17 +77,12 @@ fn prepare<L: Library, G: Gate>(
     files: &mut L,
     gate: &G,
 ) -> Result<Prepared, Outcome>
-    ensures whole { IfOk result (λ p. IsWhole (texts words.now) (L.held files.old) p.answer p.text) }
-    ensures reason { IfErr result (IsReason (record {
-      words = texts words.now;
-      held = L.held files.old;
-      before = L.faults files.old;
-      after = L.faults files.new;
-      last = L.last_fault files.new;
-    })) }
+    ensures whole { IfOk result (λ p. IsWhole (reading_of L.held L.given L.faults L.last_fault (texts words.now) files.old files.new) p.answer p.text) }
+    ensures reason { IfErr result (IsReason (reading_of L.held L.given L.faults L.last_fault (texts words.now) files.old files.new)) }
     ensures usage { (fault : WordFault) → command_of (texts words.now) ≡ Err fault → result ≡ Err (Outcome.Usage fault) }
     ensures nothing_fetched { (fault : WordFault) → result ≡ Err (Outcome.Usage fault) → files.new ≡ files.old }
     ensures held { L.held files.new ≡ L.held files.old }
+    ensures given { IsGrown (L.given files.old) (L.given files.new) }
     ensures count { L.faults files.old ≤ L.faults files.new }
 {
     let command = read_words(alloc, words)?;
@@ -97,13 +92,8 @@ fn prepare<L: Library, G: Gate>(
 
 // Writes the text of an answer.
 fn write_answer<K: Sink>(out: &mut K, prepared: Prepared) -> Outcome
-    ensures tells { (reading : Reading) → IsWhole reading.words reading.held prepared.answer prepared.text
-        → Tells reading (record {
-          taken = K.taken out.old;
-          now = K.taken out.new;
-          before = K.faults out.old;
-          after = K.faults out.new;
-        }) result }
+    ensures tells { (reading : Reading) → IsWhole reading prepared.answer prepared.text
+        → Tells reading (writing_of K.taken K.accepted K.faults out.old out.new) result }
     ensures written { is_unwritten result ≡ false }
     ensures count { K.faults out.old ≤ K.faults out.new }
 {
@@ -133,13 +123,13 @@ pub fn run<R: Threads + Sync, L: Library, K: Sink, G: Gate>(
 ) -> Outcome
     // What each answer says: `Tells` has a line for each.
     ensures tells { Tells
-        (record { words = texts words.now; held = L.held files.old; before = L.faults files.old; after = L.faults files.new; last = L.last_fault files.new })
-        (record { taken = K.taken out.old; now = K.taken out.new; before = K.faults out.old; after = K.faults out.new }) result }
+        (reading_of L.held L.given L.faults L.last_fault (texts words.now) files.old files.new)
+        (writing_of K.taken K.accepted K.faults out.old out.new) result }
 
     // Which one is given: where no call fails, that of the one cause that the files have, or `Memory`.
     ensures decided { IsDecided
-        (record { words = texts words.now; held = L.held files.old; before = L.faults files.old; after = L.faults files.new; last = L.last_fault files.new })
-        (record { taken = K.taken out.old; now = K.taken out.new; before = K.faults out.old; after = K.faults out.new }) result }
+        (reading_of L.held L.given L.faults L.last_fault (texts words.now) files.old files.new)
+        (writing_of K.taken K.accepted K.faults out.old out.new) result }
 
     // Words that are no command are always answered so, and then no file is asked for.
     ensures usage { (fault : WordFault) → command_of (texts words.now) ≡ Err fault → result ≡ Outcome.Usage fault }
@@ -148,8 +138,9 @@ pub fn run<R: Threads + Sync, L: Library, K: Sink, G: Gate>(
     // With an answer other than `Ran`, `Checked` and `SinkFailed` nothing is written.
     ensures nothing_written { is_unwritten result ≡ true → out.new ≡ out.old }
 
-    // The library keeps what it holds, and no count falls.
+    // The library keeps what it holds and what it gave, and no count falls.
     ensures held { L.held files.new ≡ L.held files.old }
+    ensures given { IsGrown (L.given files.old) (L.given files.new) }
     ensures library_count { L.faults files.old ≤ L.faults files.new }
     ensures sink_count { K.faults out.old ≤ K.faults out.new }
 {
