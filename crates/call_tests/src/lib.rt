@@ -24,8 +24,6 @@ mod sl_lex;
 #[cfg(test)]
 mod sl_read;
 #[cfg(test)]
-mod top;
-#[cfg(test)]
 mod tree;
 #[cfg(test)]
 mod turn;
