@@ -27,5 +27,3 @@ mod sl_read;
 mod tree;
 #[cfg(test)]
 mod turn;
-#[cfg(test)]
-mod values;

@@ -1,5 +1,7 @@
 //! `pd_values`: lists of names, and texts at the edges, worked out by hand. Numbers, orders and equality are cases of
 //! `run_cases`.
+ghost use Rattle.pd_values.specs.Answers.{IsNamed};
+
 use pd_values::{Fault, Items, NodeId, Stop, Text, Value, add, show};
 use std::alloc::Global;
 use std::process::Abort;
@@ -23,7 +25,9 @@ fn expect_shown(
     value: &Value,
     names: &[Text],
     expected: &str,
-) -> Result<(), Fail> {
+) -> Result<(), Fail>
+    requires { IsNamed names.now value.now }
+{
     let text = show(alloc, value, names)?;
     assert_eq!(rt; text.as_str(), expected);
     Ok(())
