@@ -5,4 +5,3 @@ pub mod KeptLemmas
 pub mod TellLemmas
 pub mod PlainLemmas
 pub mod TallyLemmas
-pub mod Examples

@@ -1,6 +1,5 @@
 -- Definitions, which public contracts cite: Bits, Chain, Answers, Standing, Kept, Bound, Plain and Tally.
 -- For the proofs, but for a few words that `standing_of` uses: NodeBits, Life, Journal and Sessions.
--- For the tests: Examples.
 pub mod Bits
 pub mod Chain
 pub mod Answers
@@ -13,4 +12,3 @@ pub mod Bound
 pub mod Sessions
 pub mod Plain
 pub mod Tally
-pub mod Examples

@@ -9,8 +9,6 @@ mod journal;
 mod life;
 mod plain;
 mod session;
-#[cfg(test)]
-mod tests;
 
 pub use answers::{
     ActResult, Attach, BindingTally, Dispose, Drawn, Known, Passed, Sight, State, Tally, Toggle,

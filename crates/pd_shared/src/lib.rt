@@ -10,8 +10,6 @@ mod seat;
 mod shared;
 mod sights;
 mod steps;
-#[cfg(test)]
-mod tests;
 mod token;
 
 pub use close::Tally;

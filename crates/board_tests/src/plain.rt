@@ -1,13 +1,16 @@
 //! Worked sequences of calls.
 ghost use Rattle.std.specs.Prelude.{◌≡◌, ℕ, ◌==◌, ◌&&◌, not, ◌<◌, ◌≤◌, [], ◌∷◌, true, false, IfOk, IfSome, Some};
 ghost use Rattle.pd_board.specs.Answers.{has_attachment, has_disposal};
-ghost use Rattle.pd_board.specs.Examples.{worked_sights, worked_replies, toggled_sights, toggled_replies};
+ghost use Rattle.board_tests.specs.Examples.{worked_sights, worked_replies, toggled_sights, toggled_replies};
 ghost use Rattle.pd_board.specs.Kept.{numbers_of, IsMissed, follows};
 ghost use Rattle.pd_board.specs.Plain.{standing_of};
 ghost use Rattle.pd_board.specs.Standing.{bindings};
 ghost use Rattle.pd_board.specs.Tally.{state_by};
 
-use super::*;
+use pd_board::{
+    ActResult, Attach, BindingTally, Board, Chain, Dispose, Drawn, Known, PlainBoard, Sight, State,
+    Toggle,
+};
 use pd_plan::MatchTable;
 use pd_values::{Items, NodeId};
 use std::alloc::{AllocError, Global};

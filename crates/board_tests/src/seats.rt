@@ -5,11 +5,11 @@ ghost use Rattle.pd_core.specs.Examples.{one_binding};
 ghost use Rattle.pd_core.specs.Views.{first_view};
 ghost use Rattle.pd_shared.specs.Sitting.{IsOf, standing_of};
 
-use super::*;
 use pd_board::{
     ActResult, Attach, BindingTally, Board, Dispose, Drawn, Known, Passed, Sight, State, Toggle,
 };
 use pd_plan::MatchTable;
+use pd_shared::{Seat, SharedBoard, Sights, Tally, Token};
 use pd_values::{Items, NodeId};
 use std::alloc::{AllocError, Global};
 use std::process::Abort;

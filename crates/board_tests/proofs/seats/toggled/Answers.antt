@@ -2,7 +2,7 @@ use Rattle.std.proofs.Common.{◌≡◌, ℕ, ◌-◌, ◌≤◌, ◌^◌, ap, �
 use Rattle.pd_core.specs.declared.view.View.{View}
 use Rattle.pd_core.specs.Talks.{answer_share}
 use Rattle.pd_shared.proofs.LeftLemmas.{first_share}
-use Rattle.pd_shared.proofs.tests.toggled.Goals as goal
+use Rattle.board_tests.proofs.seats.toggled.Goals as goal
 
 pub reserve-requires-clause-answers : goal.reserve-requires-clause-answers
 reserve-requires-clause-answers g c s lt =

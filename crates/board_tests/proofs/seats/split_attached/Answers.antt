@@ -4,7 +4,7 @@ use Rattle.pd_core.specs.Tokens.{Holder}
 use Rattle.pd_core.specs.Talks.{answer_share, handed_answers}
 use Rattle.pd_core.specs.Views.{first_view}
 use Rattle.pd_shared.proofs.LeftLemmas.{first_share}
-use Rattle.pd_shared.proofs.tests.split_attached.Goals as goal
+use Rattle.board_tests.proofs.seats.split_attached.Goals as goal
 
 pub reserve-requires-clause-answers : goal.reserve-requires-clause-answers
 reserve-requires-clause-answers g c s lt =

@@ -1,0 +1,2 @@
+-- For the tests: no other contract cites it.
+pub mod Examples
