@@ -5,6 +5,7 @@ use pd_plan::Language;
 use pd_sections::Section;
 use pd_tree::{Builder, Kind, Meaning, Operator, Program};
 use pd_values::{Items, NodeId, Tag};
+use std::alloc::Global;
 use std::process::Abort;
 use std::test::Fail;
 
@@ -101,4 +102,59 @@ fn tags_by_the_tables(rt: HostRuntime) -> Result<(), Fail> {
     expect_kinds(&rt, &program);
     expect_all_tags(&rt, &program);
     Ok(())
+}
+
+const SEEN_SL: &str =
+    "function main(a, b) { x = 1; if (x < 2) { y = x; y; } y = 2; b; } function f() { 1; }";
+
+const SEEN_PL0: &str =
+    "var a, b; procedure p; var b; procedure a; ; call a; procedure q; const b = 1; var x; x := a; call p.";
+
+/// Compares the variables that a node sees, each with its name, how many blocks outward it is, and its slot.
+fn expect_seen(
+    rt: &impl Abort,
+    alloc: Global,
+    program: &Program,
+    n: u32,
+    expected: &str,
+) -> Result<(), Fail> {
+    assert!(rt; n < program.nodes());
+    let mut seen = String::new(alloc);
+    let variables = program.sees(alloc, NodeId(n))?;
+    for v in variables.as_slice() {
+        let name = v.name.as_str();
+        seen.push_str(format!(in alloc; "{name} {} {}, ", v.up, v.slot)?.as_str())?;
+    }
+    assert_eq!(rt; seen.as_str(), expected, "node {n}");
+    Ok(())
+}
+
+/// What is seen at nodes of a function: its parameters, and from each assignment to the end of its block one variable.
+#[test]
+fn seen_in_a_function(rt: HostRuntime) -> Result<(), Fail> {
+    let alloc = rt.alloc();
+    let plan = plan(alloc, Language::Pl0, ["g", "h"], ["p", "q"], "main")?;
+    let program = loaded(&rt, alloc, [SEEN_SL, SEEN_PL0], &plan)??;
+    expect_seen(&rt, alloc, &program, 0, "a 0 0, b 0 1, ")?;
+    expect_seen(&rt, alloc, &program, 3, "a 0 0, b 0 1, ")?;
+    expect_seen(&rt, alloc, &program, 4, "a 0 0, b 0 1, x 0 2, ")?;
+    expect_seen(&rt, alloc, &program, 11, "a 0 0, b 0 1, x 0 2, y 0 3, ")?;
+    expect_seen(&rt, alloc, &program, 12, "a 0 0, b 0 1, x 0 2, ")?;
+    expect_seen(&rt, alloc, &program, 14, "a 0 0, b 0 1, x 0 2, y 0 4, ")?;
+    expect_seen(&rt, alloc, &program, 17, "")
+}
+
+/// What is seen at nodes of procedures, where names of variables, constants and procedures hide those further out.
+#[test]
+fn seen_in_procedures(rt: HostRuntime) -> Result<(), Fail> {
+    let alloc = rt.alloc();
+    let plan = plan(alloc, Language::Pl0, ["g", "h"], ["p", "q"], "main")?;
+    let program = loaded(&rt, alloc, [SEEN_SL, SEEN_PL0], &plan)??;
+    expect_seen(&rt, alloc, &program, 18, "a 0 0, b 0 1, ")?;
+    expect_seen(&rt, alloc, &program, 19, "b 0 0, ")?;
+    expect_seen(&rt, alloc, &program, 20, "b 1 0, ")?;
+    expect_seen(&rt, alloc, &program, 23, "b 0 0, ")?;
+    expect_seen(&rt, alloc, &program, 25, "x 0 0, a 1 0, ")?;
+    expect_seen(&rt, alloc, &program, 28, "x 0 0, a 1 0, ")?;
+    expect_seen(&rt, alloc, &program, 30, "a 0 0, b 0 1, ")
 }

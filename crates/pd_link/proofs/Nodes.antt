@@ -4,51 +4,50 @@ use Rattle.std.proofs.lemmas.List.{append_assoc, reverse-append, map-append, dro
 use Rattle.pd_tree.specs.declared.kind.Kind.{Kind}
 use Rattle.pd_tree.specs.declared.kind.Kind.TheVariants.{SlFunction, PlProcedure}
 use Rattle.pd_tree.specs.declared.kind.Visible.{Visible}
+use Rattle.pd_tree.specs.declared.change.Change.{Change}
 use Rattle.pd_tree.specs.declared.addition.Addition.{Addition}
 use Rattle.pd_tree.specs.declared.place.Place.{Place}
 use Rattle.pd_tree.specs.Program.{Node}
-use Rattle.pd_tree.specs.Linked.{Walk, parts_of, assigned_slots, slots_of, names_in, node_of, nodes_from, walked, no_addition, AllComplete}
-use Rattle.pd_tree.specs.Kept.{stretch, node_in, nodes_in, no_place, IsWithin}
+use Rattle.pd_tree.specs.Linked.{Walk, procedure_names, parts_of, assigned_slots, slots_of, names_in, node_of, nodes_from, walked, no_addition, kind_at, AllComplete}
+use Rattle.pd_tree.specs.Kept.{stretch, seen_by, node_in, nodes_in, no_place, IsWithin}
 use Rattle.pd_link.specs.declared.shape.Shape.{Shape}
 use Rattle.pd_link.specs.declared.walk.Walker.{Walker}
 use Rattle.pd_link.specs.Linking.{Grew, IsIn, Late, late_from, late_in, ShapesFrom, AllShapesIn}
 use Rattle.pd_link.specs.Walks.{Steps, IsPlacedTo, AllPlacesIn, walk_of, slots_by, node_by}
-use Rattle.pd_link.proofs.Shapes.{complete-drop}
-use Rattle.pd_link.proofs.Variables.{stretch-grew}
-use Rattle.pd_link.proofs.Opens.{in-grow}
+use Rattle.pd_link.proofs.Variables.{list-grew, within-grew}
 
--- ---- places, when the variables grow
+-- ---- places, when changes are added
 
-node_in-grow : (parts : List ℕ) (old new : List Visible) (a : Addition) (p : Place) → Grew old new → IsWithin parts old p → node_in parts new a p ≡ node_in parts old a p
-node_in-grow parts old new a p g h =
-    let with_sees : List Visible → Node = λ l. record (node_in parts old a p) { sees = l } in
-    ap with_sees (stretch-grew old new p.sees g h.sees_within)
+node_in-grow : (parts : List ℕ) (old new : List Change) (all : List Addition) (a : Addition) (p : Place) → Grew old new → IsWithin parts old p → node_in parts new all a p ≡ node_in parts old all a p
+node_in-grow parts old new all a p g h =
+    let with_sees : List Visible → Node = λ l. record (node_in parts old all a p) { sees = seen_by a.kind (procedure_names all (stretch p.parts parts)) l } in
+    ap with_sees (list-grew all old new p.sees g h.sees_within)
 
-nodes_in-grow : (parts : List ℕ) (old new : List Visible) (xs : List Addition) (places : List Place) → Grew old new → AllPlacesIn parts old places → nodes_in parts new xs places ≡ nodes_in parts old xs places
-nodes_in-grow parts old new [] places g h = refl
-nodes_in-grow parts old new (x ∷ xs) [] g h = refl
-nodes_in-grow parts old new (x ∷ xs) (p ∷ ps) g h =
-    ap (λ y. y ∷ nodes_in parts new xs ps) (node_in-grow parts old new x p g h.0) ∙ ap (λ ys. node_in parts old x p ∷ ys) (nodes_in-grow parts old new xs ps g h.1)
+nodes_in-grow : (parts : List ℕ) (old new : List Change) (all xs : List Addition) (places : List Place) → Grew old new → AllPlacesIn parts old places → nodes_in parts new all xs places ≡ nodes_in parts old all xs places
+nodes_in-grow parts old new all [] places g h = refl
+nodes_in-grow parts old new all (x ∷ xs) [] g h = refl
+nodes_in-grow parts old new all (x ∷ xs) (p ∷ ps) g h =
+    ap (λ y. y ∷ nodes_in parts new all xs ps) (node_in-grow parts old new all x p g h.0) ∙ ap (λ ys. node_in parts old all x p ∷ ys) (nodes_in-grow parts old new all xs ps g h.1)
 
-nodes_in-push : (parts : List ℕ) (variables : List Visible) (xs : List Addition) (places : List Place) (a : Addition) (p : Place) → length xs ≡ length places → nodes_in parts variables (xs ++ a ∷ []) (places ++ p ∷ []) ≡ nodes_in parts variables xs places ++ node_in parts variables a p ∷ []
-nodes_in-push parts variables [] [] a p e = refl
-nodes_in-push parts variables [] (q ∷ qs) a p e = absurd (omega arith)
-nodes_in-push parts variables (x ∷ xs) [] a p e = absurd (omega arith)
-nodes_in-push parts variables (x ∷ xs) (q ∷ qs) a p e = ap (λ ys. node_in parts variables x q ∷ ys) (nodes_in-push parts variables xs qs a p (omega arith))
+nodes_in-push : (parts : List ℕ) (changes : List Change) (all xs : List Addition) (places : List Place) (a : Addition) (p : Place) → length xs ≡ length places → nodes_in parts changes all (xs ++ a ∷ []) (places ++ p ∷ []) ≡ nodes_in parts changes all xs places ++ node_in parts changes all a p ∷ []
+nodes_in-push parts changes all [] [] a p e = refl
+nodes_in-push parts changes all [] (q ∷ qs) a p e = absurd (omega arith)
+nodes_in-push parts changes all (x ∷ xs) [] a p e = absurd (omega arith)
+nodes_in-push parts changes all (x ∷ xs) (q ∷ qs) a p e = ap (λ ys. node_in parts changes all x q ∷ ys) (nodes_in-push parts changes all xs qs a p (omega arith))
 
-places_in-grow : (parts : List ℕ) (old new : List Visible) (places : List Place) → Grew old new → AllPlacesIn parts old places → AllPlacesIn parts new places
+places_in-grow : (parts : List ℕ) (old new : List Change) (places : List Place) → Grew old new → AllPlacesIn parts old places → AllPlacesIn parts new places
 places_in-grow parts old new [] g h = tt
 places_in-grow parts old new (p ∷ ps) g h =
-    (record { parts_within = h.0.parts_within; sees_within = in-grow old new p.sees.from p.sees.len g h.0.sees_within }, places_in-grow parts old new ps g h.1)
+    (record { parts_within = h.0.parts_within; sees_within = within-grew old new p.sees g h.0.sees_within }, places_in-grow parts old new ps g h.1)
 
-places_in-push : (parts : List ℕ) (variables : List Visible) (places : List Place) (p : Place) → AllPlacesIn parts variables places → IsWithin parts variables p → AllPlacesIn parts variables (places ++ p ∷ [])
-places_in-push parts variables [] p h e = (e, tt)
-places_in-push parts variables (q ∷ qs) p h e = (h.0, places_in-push parts variables qs p h.1 e)
+places_in-push : (parts : List ℕ) (changes : List Change) (places : List Place) (p : Place) → AllPlacesIn parts changes places → IsWithin parts changes p → AllPlacesIn parts changes (places ++ p ∷ [])
+places_in-push parts changes [] p h e = (e, tt)
+places_in-push parts changes (q ∷ qs) p h e = (h.0, places_in-push parts changes qs p h.1 e)
 
-pub place-in : (parts : List ℕ) (variables : List Visible) (places : List Place) (n : ℕ) → AllPlacesIn parts variables places → n < length places → IsWithin parts variables (get_or places n no_place)
-place-in parts variables [] n h lt = absurd (omega arith)
-place-in parts variables (p ∷ ps) zero h lt = h.0
-place-in parts variables (p ∷ ps) (suc n) h lt = place-in parts variables ps n h.1 (omega arith)
+pub place-in : (parts : List ℕ) (changes : List Change) (places : List Place) (n : ℕ) → AllPlacesIn parts changes places → n < length places → IsWithin parts changes (get_or places n no_place)
+place-in parts changes [] n h lt = absurd (omega arith)
+place-in parts changes (p ∷ ps) zero h lt = h.0
+place-in parts changes (p ∷ ps) (suc n) h lt = place-in parts changes ps n h.1 (omega arith)
 
 -- ---- shapes that are taken from the end
 
@@ -110,27 +109,30 @@ placed-next all found n item parts shapes left shape old new places place lt sam
     let front : drop n all ≡ a ∷ rest = drop_more all n no_addition lt in
     let P : List Addition → Type 0 = λ l. ShapesFrom n l parts shapes in
     let taken = shape-taken n a rest parts shapes left shape e (subst P front h.shapes_are) in
-    let before = nodes_in parts old.variables.items (take n all) places in
-    let node = s.node ∙ node_by-of all found n (walk_of old) a rest item (stretch shape.parts parts) shape.assigned same taken.parts_are taken.assigned in
+    let before = nodes_in parts old.changes.items all (take n all) places in
+    let node = s.node ∙ node_by-of all found n (walk_of all old) a rest item (stretch shape.parts parts) shape.assigned same taken.parts_are taken.assigned in
     let sizes : length (take n all) ≡ length places = length-take-le n all h.within ∙ sym h.count in
     let pushed =
-    ap (λ l. nodes_in parts new.variables.items l (places ++ place ∷ [])) (take_more all n no_addition lt)
-    ∙ nodes_in-push parts new.variables.items (take n all) places a place sizes
-    ∙ ap (λ l. l ++ node_in parts new.variables.items a place ∷ []) (nodes_in-grow parts old.variables.items new.variables.items (take n all) places s.grew h.places_in)
+    ap (λ l. nodes_in parts new.changes.items all l (places ++ place ∷ [])) (take_more all n no_addition lt)
+    ∙ nodes_in-push parts new.changes.items all (take n all) places a place sizes
+    ∙ ap (λ l. l ++ node_in parts new.changes.items all a place ∷ []) (nodes_in-grow parts old.changes.items new.changes.items all (take n all) places s.grew h.places_in)
     ∙ ap (λ x. before ++ x ∷ []) node in
     record {
       within = omega arith;
       count = length_push places place ∙ ap (λ k. k + 1) h.count;
       shapes_are = taken.left_are;
       kept = s.kept;
-      places_in = places_in-push parts new.variables.items places place (places_in-grow parts old.variables.items new.variables.items places s.grew h.places_in) s.within;
+      places_in = places_in-push parts new.changes.items places place (places_in-grow parts old.changes.items new.changes.items places s.grew h.places_in) s.within;
       nodes =
-          ap (λ l. l ++ nodes_from all found (n + 1) (walk_of new) rest) pushed
-          ∙ ap (λ w. before ++ node_of all found n (walk_of old) a rest ∷ [] ++ nodes_from all found (n + 1) w rest) s.next
-          ∙ append_assoc before (node_of all found n (walk_of old) a rest ∷ []) (nodes_from all found (n + 1) (walked all n (walk_of old) a) rest)
-          ∙ sym (ap (λ l. before ++ nodes_from all found n (walk_of old) l) front)
+          ap (λ l. l ++ nodes_from all found (n + 1) (walk_of all new) rest) pushed
+          ∙ ap (λ w. before ++ node_of all found n (walk_of all old) a rest ∷ [] ++ nodes_from all found (n + 1) w rest) s.next
+          ∙ append_assoc before (node_of all found n (walk_of all old) a rest ∷ []) (nodes_from all found (n + 1) (walked all n (walk_of all old) a) rest)
+          ∙ sym (ap (λ l. before ++ nodes_from all found n (walk_of all old) l) front)
           ∙ h.nodes;
     }
 
-pub names-few : (all : List Addition) (n : ℕ) → n < length all → AllComplete all → length (names_in (get_or all n no_addition).kind) < 2 ^ 32
-names-few all n lt h = (subst AllComplete (drop_more all n no_addition lt) (complete-drop n all h)).2
+pub names-counted : (all : List Addition) → AllComplete all → (n : ℕ) → length (names_in (kind_at all n)) < 2 ^ 32
+names-counted [] h zero = omega arith
+names-counted [] h (suc n) = omega arith
+names-counted (a ∷ rest) h zero = h.2
+names-counted (a ∷ rest) h (suc n) = names-counted rest h.4 n

@@ -1,18 +1,19 @@
 -- Nodes of which parts may still come, from the innermost outward.
 use Rattle.std.proofs.Common.{◌≡◌, refl, sym, ◌∙◌, ap, subst, ℕ, zero, suc, ◌+◌, ◌-◌, ◌<◌, ◌≤◌, List, [], ◌∷◌, ◌++◌, length, map, take, drop, reverse, get_or, arith}
-use Rattle.std.proofs.lemmas.List.{reverse-append, map-append, take-append-drop, drop_more, drop_all, length-append}
+use Rattle.std.proofs.lemmas.List.{reverse-append, map-append, take-append-drop, drop_more, drop_all}
 use Rattle.pd_tree.specs.declared.kind.Visible.{Visible}
 use Rattle.pd_tree.specs.declared.addition.Addition.{Addition}
+use Rattle.pd_tree.specs.declared.change.Change.{Change}
 use Rattle.pd_tree.specs.Linked.{Open, Walk, closed, seen_behind, kind_at, no_addition}
 use Rattle.pd_link.specs.declared.walk.Opened.{Opened}
-use Rattle.pd_link.specs.Linking.{Grew, IsIn, AllOpenedIn, open_in, opens_in}
+use Rattle.pd_link.specs.Linking.{Grew, AllOpenedIn, open_in, opens_in}
 use Rattle.pd_link.specs.Walks.{IsOpenAt, AllOpenAt}
-use Rattle.pd_link.proofs.Variables.{stretch-grew}
+use Rattle.pd_link.proofs.Variables.{list-grew, within-grew}
 
 -- the innermost is the last
-pub opens-push : (variables : List Visible) (opened : List Opened) (x : Opened) → opens_in variables (opened ++ x ∷ []) ≡ open_in variables x ∷ opens_in variables opened
-opens-push variables opened x =
-    ap reverse (map-append (open_in variables) opened (x ∷ [])) ∙ reverse-append (map (open_in variables) opened) (open_in variables x ∷ [])
+pub opens-push : (all : List Addition) (changes : List Change) (opened : List Opened) (x : Opened) → opens_in all changes (opened ++ x ∷ []) ≡ open_in all changes x ∷ opens_in all changes opened
+opens-push all changes opened x =
+    ap reverse (map-append (open_in all changes) opened (x ∷ [])) ∙ reverse-append (map (open_in all changes) opened) (open_in all changes x ∷ [])
 
 last-of : (opened : List Opened) (x : Opened) → 0 < length opened → x ≡ get_or opened (length opened - 1) x → opened ≡ take (length opened - 1) opened ++ x ∷ []
 last-of opened x h e =
@@ -20,42 +21,39 @@ last-of opened x h e =
     sym (take-append-drop k opened)
     ∙ ap (λ l. take k opened ++ l) (drop_more opened k x (omega arith) ∙ ap (λ y. y ∷ drop (k + 1) opened) (sym e) ∙ ap (λ l. x ∷ l) (drop_all (k + 1) opened (omega arith)))
 
-pub opens-last : (variables : List Visible) (opened : List Opened) (x : Opened) → 0 < length opened → x ≡ get_or opened (length opened - 1) x → opens_in variables opened ≡ open_in variables x ∷ opens_in variables (take (length opened - 1) opened)
-opens-last variables opened x h e = ap (opens_in variables) (last-of opened x h e) ∙ opens-push variables (take (length opened - 1) opened) x
+pub opens-last : (all : List Addition) (changes : List Change) (opened : List Opened) (x : Opened) → 0 < length opened → x ≡ get_or opened (length opened - 1) x → opens_in all changes opened ≡ open_in all changes x ∷ opens_in all changes (take (length opened - 1) opened)
+opens-last all changes opened x h e = ap (opens_in all changes) (last-of opened x h e) ∙ opens-push all changes (take (length opened - 1) opened) x
 
-pub opens-nodes : (k : ℕ) (variables : List Visible) (opened rest : List Opened) (x : Opened) → opened ≡ rest ++ x ∷ [] → AllOpenAt k (opens_in variables opened) → IsOpenAt k (open_in variables x) × AllOpenAt k (opens_in variables rest)
-opens-nodes k variables opened rest x e h = subst (AllOpenAt k) (ap (opens_in variables) e ∙ opens-push variables rest x) h
+pub opens-nodes : (k : ℕ) (all : List Addition) (changes : List Change) (opened rest : List Opened) (x : Opened) → opened ≡ rest ++ x ∷ [] → AllOpenAt k (opens_in all changes opened) → IsOpenAt k (open_in all changes x) × AllOpenAt k (opens_in all changes rest)
+opens-nodes k all changes opened rest x e h = subst (AllOpenAt k) (ap (opens_in all changes) e ∙ opens-push all changes rest x) h
 
--- ---- when the variables grow
+-- ---- when changes are added
 
-pub opened-grow : (old new : List Visible) (opened : List Opened) → Grew old new → AllOpenedIn old opened → map (open_in new) opened ≡ map (open_in old) opened
-opened-grow old new [] g h = refl
-opened-grow old new (x ∷ xs) g h =
-    let first : open_in new x ≡ open_in old x =
-    ap (λ l. let o : Open = record { node = x.node; left = x.left; first = x.first; root = x.root; level = x.level; outside = l } in o) (stretch-grew old new x.outside g h.0) in
-    ap (λ y. y ∷ map (open_in new) xs) first ∙ ap (λ ys. open_in old x ∷ ys) (opened-grow old new xs g h.1)
+pub opened-grow : (all : List Addition) (old new : List Change) (opened : List Opened) → Grew old new → AllOpenedIn old opened → map (open_in all new) opened ≡ map (open_in all old) opened
+opened-grow all old new [] g h = refl
+opened-grow all old new (x ∷ xs) g h =
+    let first : open_in all new x ≡ open_in all old x =
+    ap (λ l. let o : Open = record { node = x.node; left = x.left; first = x.first; root = x.root; level = x.level; outside = l } in o) (list-grew all old new x.outside g h.0) in
+    ap (λ y. y ∷ map (open_in all new) xs) first ∙ ap (λ ys. open_in all old x ∷ ys) (opened-grow all old new xs g h.1)
 
-pub opens-grow : (old new : List Visible) (opened : List Opened) → Grew old new → AllOpenedIn old opened → opens_in new opened ≡ opens_in old opened
-opens-grow old new opened g h = ap reverse (opened-grow old new opened g h)
+pub opens-grow : (all : List Addition) (old new : List Change) (opened : List Opened) → Grew old new → AllOpenedIn old opened → opens_in all new opened ≡ opens_in all old opened
+opens-grow all old new opened g h = ap reverse (opened-grow all old new opened g h)
 
-pub in-grow : (old new : List Visible) (from len : ℕ) → Grew old new → from + len ≤ length old → from + len ≤ length new
-in-grow old new from len g h = omega (arith, ap length g.1, length-append old g.0)
-
-pub opened_in-grow : (old new : List Visible) (opened : List Opened) → Grew old new → AllOpenedIn old opened → AllOpenedIn new opened
+pub opened_in-grow : (old new : List Change) (opened : List Opened) → Grew old new → AllOpenedIn old opened → AllOpenedIn new opened
 opened_in-grow old new [] g h = tt
-opened_in-grow old new (x ∷ xs) g h = (in-grow old new x.outside.from x.outside.len g h.0, opened_in-grow old new xs g h.1)
+opened_in-grow old new (x ∷ xs) g h = (within-grew old new x.outside g h.0, opened_in-grow old new xs g h.1)
 
-pub opened_in-push : (variables : List Visible) (opened : List Opened) (x : Opened) → AllOpenedIn variables opened → IsIn variables x.outside → AllOpenedIn variables (opened ++ x ∷ [])
-opened_in-push variables [] x h e = (e, tt)
-opened_in-push variables (y ∷ ys) x h e = (h.0, opened_in-push variables ys x h.1 e)
+pub opened_in-push : (changes : List Change) (opened : List Opened) (x : Opened) → AllOpenedIn changes opened → x.outside ≤ length changes → AllOpenedIn changes (opened ++ x ∷ [])
+opened_in-push changes [] x h e = (e, tt)
+opened_in-push changes (y ∷ ys) x h e = (h.0, opened_in-push changes ys x h.1 e)
 
-pub opened_in-front : (variables : List Visible) (opened : List Opened) (x : Opened) → AllOpenedIn variables (opened ++ x ∷ []) → AllOpenedIn variables opened
-opened_in-front variables [] x h = tt
-opened_in-front variables (y ∷ ys) x h = (h.0, opened_in-front variables ys x h.1)
+pub opened_in-front : (changes : List Change) (opened : List Opened) (x : Opened) → AllOpenedIn changes (opened ++ x ∷ []) → AllOpenedIn changes opened
+opened_in-front changes [] x h = tt
+opened_in-front changes (y ∷ ys) x h = (h.0, opened_in-front changes ys x h.1)
 
-pub opened_in-last : (variables : List Visible) (opened : List Opened) (x : Opened) → AllOpenedIn variables (opened ++ x ∷ []) → IsIn variables x.outside
-opened_in-last variables [] x h = h.0
-opened_in-last variables (y ∷ ys) x h = opened_in-last variables ys x h.1
+pub opened_in-last : (changes : List Change) (opened : List Opened) (x : Opened) → AllOpenedIn changes (opened ++ x ∷ []) → x.outside ≤ length changes
+opened_in-last changes [] x h = h.0
+opened_in-last changes (y ∷ ys) x h = opened_in-last changes ys x h.1
 
 -- ---- nodes that end
 

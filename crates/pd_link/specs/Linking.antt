@@ -1,16 +1,16 @@
 -- Definition: `AllUnlinked`, `AllFound` and `AllBelow`; the rest is for proofs.
 -- The words of linking: what the walk over the nodes keeps, seen as the walk of the definition.
 use Rattle.std.specs.Prelude.{◌≡◌, ℕ, ◌+◌, ◌<◌, ◌≤◌, List, [], ◌∷◌, ◌++◌, length, map, reverse, Option, None, Some}
-use Rattle.pd_tree.specs.declared.kind.Visible.{Visible}
 use Rattle.pd_tree.specs.declared.kind.Meaning.{Meaning}
 use Rattle.pd_tree.specs.declared.kind.Meaning.TheVariants.{Local, Item as Means, Nothing}
 use Rattle.pd_tree.specs.declared.addition.Addition.{Addition}
+use Rattle.pd_tree.specs.declared.change.Change.{Change}
 use Rattle.pd_tree.specs.declared.place.Span.{Span}
 use Rattle.pd_link.specs.declared.shape.Shape.{Shape}
 use Rattle.pd_link.specs.declared.walk.Opened.{Opened}
 use Rattle.pd_tree.specs.Linked.{Open, Walk, IsWhole, parts_of, assigned_slots, linked}
 use Rattle.pd_tree.specs.WellFormed.{MeansAnItem}
-use Rattle.pd_tree.specs.Kept.{stretch}
+use Rattle.pd_tree.specs.Kept.{stretch, list_at}
 
 -- ---- parts and slots
 
@@ -45,21 +45,21 @@ pub record ShapesFrom (n : ℕ) (rest : List Addition) (parts : List ℕ) (shape
 -- ---- the walk
 
 -- an open node, with the variables that are seen around it
-abbrev pub open_in : List Visible → Opened → Open
-open_in variables x = record { node = x.node; left = x.left; first = x.first; root = x.root; level = x.level; outside = stretch x.outside variables }
+abbrev pub open_in : List Addition → List Change → Opened → Open
+open_in all changes x = record { node = x.node; left = x.left; first = x.first; root = x.root; level = x.level; outside = list_at all changes x.outside }
 
 -- open nodes are kept from the outermost inward
-abbrev pub opens_in : List Visible → List Opened → List Open
-opens_in variables opened = reverse (map (open_in variables) opened)
+abbrev pub opens_in : List Addition → List Change → List Opened → List Open
+opens_in all changes opened = reverse (map (open_in all changes) opened)
 
--- the walk that is kept with these open nodes and this stretch of seen variables
-abbrev pub walk_in : List Visible → List Opened → Span → Walk
-walk_in variables opened seen = record { open_nodes = opens_in variables opened; seen = stretch seen variables }
+-- the walk that is kept with these open nodes and this list of seen variables
+abbrev pub walk_in : List Addition → List Change → List Opened → ℕ → Walk
+walk_in all changes opened seen = record { open_nodes = opens_in all changes opened; seen = list_at all changes seen }
 
--- the variables around each open node lie within the list
-abbrev pub AllOpenedIn : List Visible → List Opened → Type 0
-AllOpenedIn variables [] = Unit {0}
-AllOpenedIn variables (x ∷ xs) = IsIn variables x.outside × AllOpenedIn variables xs
+-- the changes lead to the list around each open node
+abbrev pub AllOpenedIn : List Change → List Opened → Type 0
+AllOpenedIn changes [] = Unit {0}
+AllOpenedIn changes (x ∷ xs) = (x.outside ≤ length changes) × AllOpenedIn changes xs
 
 -- the list only grew at its end
 abbrev pub Grew : {T : Type 0} → List T → List T → Type 0

@@ -31,13 +31,13 @@ pub fn link(
     let Places {
         places,
         parts,
-        variables,
+        changes,
     } = places_of(alloc, additions.as_slice(), found.as_slice())?;
     Ok(Program::keep(Lists {
         additions,
         places,
         parts,
-        variables,
+        changes,
         names,
         roots,
         mains,

@@ -5,3 +5,5 @@ pub mod Kinds
 pub mod Linked
 pub mod WellFormed
 pub mod Kept
+-- For the proofs alone.
+pub mod Seen

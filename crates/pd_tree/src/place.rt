@@ -16,8 +16,9 @@ pub struct Span {
 pub struct Place {
     /// Its parts, a stretch of the program's parts.
     pub parts: Span,
-    /// The variables that it sees, a stretch of the program's variables.
-    pub sees: Span,
+    /// The number of the list of variables that it sees; a procedure sees those of the list that its inner procedures
+    /// don't hide.
+    pub sees: usize,
     pub meaning: Meaning,
     /// Whether it stands as a statement or as a condition.
     pub stands: bool,

@@ -1,16 +1,19 @@
 //! The nodes of all sources, linked.
-ghost use Rattle.std.specs.Prelude.{◌≡◌, ◌<◌, length, slice_index, slice_index_or, None};
+ghost use Rattle.std.specs.Prelude.{◌≡◌, ◌<◌, length, slice_index, slice_index_or, None, IfOk};
 ghost use Rattle.pd_tree.specs.Program.{node_at, item_at, item_names, has_tag};
 ghost use Rattle.pd_tree.specs.Kinds.{root_name_of};
 ghost use Rattle.pd_tree.specs.WellFormed.{IsWellFormed, IsLinked};
 ghost use Rattle.pd_tree.specs.Kept.{kept_program, IsKept, IsAdditionOf, IsPlaceOf};
 
 use crate::addition::Addition;
+use crate::change::Change;
 use crate::kind::{Kind, Meaning, Visible};
 use crate::place::{Place, stretch};
+use crate::seen::{list_of, seen_by};
 use crate::tags::{has_tag, tags};
 use pd_sections::Section;
 use pd_values::{NodeId, Tag, Text};
+use std::alloc::{AllocError, Global};
 use std::marker::Model;
 
 /// The lists that keep a linked program.
@@ -22,8 +25,8 @@ pub struct Lists {
     pub places: Vec<Place>,
     /// The parts of all nodes; a place has a stretch of them.
     pub parts: Vec<NodeId>,
-    /// The variables that nodes see; a place has a stretch of them.
-    pub variables: Vec<Visible>,
+    /// The changes of what is seen from node to node; a place has the number of the list that they lead to.
+    pub changes: Vec<Change>,
     /// The names of the items.
     pub names: Vec<Text>,
     /// The root of each item, if it has one.
@@ -40,7 +43,7 @@ pub struct Program {
     additions: Vec<Addition>,
     places: Vec<Place>,
     parts: Vec<NodeId>,
-    variables: Vec<Visible>,
+    changes: Vec<Change>,
     names: Vec<Text>,
     roots: Vec<Option<u32>>,
     mains: Vec<Option<u32>>,
@@ -54,30 +57,30 @@ impl Model for Program {
 
     ghost Value = { Program };
 
-    ghost view = { λ p. kept_program p.parts.items p.variables.items p.additions.items p.places.items
+    ghost view = { λ p. kept_program p.parts.items p.changes.items p.additions.items p.places.items
         p.names.items p.roots.items p.mains.items p.entries.items };
 
     ghost invariant = { λ p.
-        IsKept p.parts.items p.variables.items p.additions.items p.places.items p.names.items p.roots.items ×
-        IsWellFormed (kept_program p.parts.items p.variables.items p.additions.items p.places.items
+        IsKept p.parts.items p.changes.items p.additions.items p.places.items p.names.items p.roots.items ×
+        IsWellFormed (kept_program p.parts.items p.changes.items p.additions.items p.places.items
         p.names.items p.roots.items p.mains.items p.entries.items) };
 }
 
 impl Program {
     /// The program that these lists keep. It takes no memory.
     pub fn keep(lists: Lists) -> Program
-        requires kept { IsKept lists.parts.items lists.variables.items lists.additions.items lists.places.items
+        requires kept { IsKept lists.parts.items lists.changes.items lists.additions.items lists.places.items
             lists.names.items lists.roots.items }
-        requires linked { IsWellFormed (kept_program lists.parts.items lists.variables.items lists.additions.items
+        requires linked { IsWellFormed (kept_program lists.parts.items lists.changes.items lists.additions.items
             lists.places.items lists.names.items lists.roots.items lists.mains.items lists.entries.items) }
-        ensures { result ≡ kept_program lists.parts.items lists.variables.items lists.additions.items
+        ensures { result ≡ kept_program lists.parts.items lists.changes.items lists.additions.items
             lists.places.items lists.names.items lists.roots.items lists.mains.items lists.entries.items }
     {
         Program {
             additions: lists.additions,
             places: lists.places,
             parts: lists.parts,
-            variables: lists.variables,
+            changes: lists.changes,
             names: lists.names,
             roots: lists.roots,
             mains: lists.mains,
@@ -116,12 +119,18 @@ impl Program {
         stretch(&self.parts, self.places[n.0 as usize].parts)
     }
 
-    /// The variables that a frame sees at a node.
-    pub fn sees(&self, n: NodeId) -> &[Visible]
+    /// The variables that a frame sees at a node. They are made anew by each call, from the changes that lead to them:
+    /// it takes time by their number and by the number of the variables. Where memory runs out it answers
+    /// `AllocError`.
+    pub fn sees(&self, alloc: Global, n: NodeId) -> Result<Vec<Visible>, AllocError>
         requires { n < length self.now.nodes }
-        ensures { result.now ≡ (node_at self.now n).sees }
+        ensures { IfOk result (λ v. v.items ≡ (node_at self.now n).sees) }
     {
-        stretch(&self.variables, self.places[n.0 as usize].sees)
+        let additions = self.additions.as_slice();
+        let place = &self.places[n.0 as usize];
+        let seen = list_of(alloc, additions, self.changes.as_slice(), place.sees)?;
+        let parts = stretch(&self.parts, place.parts);
+        seen_by(additions, parts, &additions[n.0 as usize].kind, seen)
     }
 
     /// The tags of a node.

@@ -154,7 +154,8 @@ fn write_frame(
         return Ok(());
     }
     write!(text, " | {}@{}", program.root_name(root).as_str(), at.0)?;
-    for seen in program.sees(at) {
+    let variables = program.sees(*text.allocator(), at)?;
+    for seen in variables.as_slice() {
         write!(text, " {}=", seen.name.as_str())?;
         match scene.value(i, seen.up, seen.slot) {
             Some(value) => write_value(text, value)?,

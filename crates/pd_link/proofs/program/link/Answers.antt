@@ -3,7 +3,7 @@ use Rattle.pd_tree.specs.Program.{Program, Node, Item}
 use Rattle.pd_tree.specs.Linked.{joined, nodes_of, items_of, mains_from, program_of, AllComplete}
 use Rattle.pd_tree.specs.Kept.{nodes_in, kept_program}
 use Rattle.pd_tree.specs.WellFormed.{IsWellFormed}
-use Rattle.pd_link.proofs.Nodes.{place-in}
+use Rattle.pd_link.proofs.Nodes.{place-in, names-counted}
 use Rattle.pd_link.proofs.Whole.{whole-joined}
 use Rattle.pd_link.proofs.WellFormed.{means-found, well-formed}
 use Rattle.pd_link.proofs.program.link.Goals as goal
@@ -27,11 +27,15 @@ places_of-requires c =
 pub keep-requires-clause-kept : goal.keep-requires-clause-kept
 keep-requires-clause-kept c =
     let p = c.in_ok-places.field-0 in
+    let complete = subst AllComplete (sym c.in_ok-additions.ensures.joined) (whole-joined c.args.trees.items c.in_ok-additions.ensures.whole).complete in
     record {
       nodes = c.in_ok-places.ensures.beside ∙ ap length c.as_slice-3.ensures.value;
       few = omega (arith, ap length c.in_ok-additions.ensures.joined);
+      counted = names-counted c.in_ok-additions.additions.items complete;
+      few_changes = c.in_ok-places.ensures.few_changes;
+      before = c.in_ok-places.ensures.before;
       items = c.in_ok-names.ensures.beside;
-      within = λ n h. place-in p.parts.items p.variables.items p.places.items n c.in_ok-places.ensures.within h;
+      within = λ n h. place-in p.parts.items p.changes.items p.places.items n c.in_ok-places.ensures.within h;
     }
 
 pub keep-requires-clause-linked : goal.keep-requires-clause-linked
@@ -42,13 +46,13 @@ keep-requires-clause-linked c =
     let x = c.in_ok-names.field-0 in
     let additions = c.in_ok-additions.additions.items in
     let all : c.as_slice-3.result.now ≡ joined trees = c.as_slice-3.ensures.value ∙ c.in_ok-additions.ensures.joined in
-    let nodes : nodes_in p.parts.items p.variables.items additions p.places.items ≡ nodes_of (joined trees) found =
-    sym (ap (λ l. nodes_in p.parts.items p.variables.items l p.places.items) c.as_slice-3.ensures.value)
+    let nodes : nodes_in p.parts.items p.changes.items additions additions p.places.items ≡ nodes_of (joined trees) found =
+    sym (ap (λ l. nodes_in p.parts.items p.changes.items l l p.places.items) c.as_slice-3.ensures.value)
     ∙ c.in_ok-places.ensures.nodes ∙ ap (λ l. nodes_of l c.as_slice-4.result.now) all ∙ ap (nodes_of (joined trees)) c.as_slice-4.ensures.value in
     let items = c.in_ok-names.ensures.items ∙ ap items_of (c.as_slice-2.ensures.value ∙ c.in_ok-additions.ensures.joined) in
     let mains = c.in_ok-mains.ensures ∙ ap (mains_from 0) c.as_slice.ensures.value in
     let entries = c.args.entries.items in
-    let kept : Program = kept_program p.parts.items p.variables.items additions p.places.items x.names.items x.roots.items c.in_ok-mains.mains.items entries in
+    let kept : Program = kept_program p.parts.items p.changes.items additions p.places.items x.names.items x.roots.items c.in_ok-mains.mains.items entries in
     let same : kept ≡ program_of trees found entries = program-same _ _ _ _ _ _ entries kept (program_of trees found entries) refl refl nodes items mains in
     subst IsWellFormed (sym same)
     (well-formed trees found entries c.in_ok-additions.ensures.whole c.requires.found
@@ -62,8 +66,8 @@ returns c =
     let x = c.in_ok-names.field-0 in
     let additions = c.in_ok-additions.additions.items in
     let all : c.as_slice-3.result.now ≡ joined trees = c.as_slice-3.ensures.value ∙ c.in_ok-additions.ensures.joined in
-    let nodes : nodes_in p.parts.items p.variables.items additions p.places.items ≡ nodes_of (joined trees) found =
-    sym (ap (λ l. nodes_in p.parts.items p.variables.items l p.places.items) c.as_slice-3.ensures.value)
+    let nodes : nodes_in p.parts.items p.changes.items additions additions p.places.items ≡ nodes_of (joined trees) found =
+    sym (ap (λ l. nodes_in p.parts.items p.changes.items l l p.places.items) c.as_slice-3.ensures.value)
     ∙ c.in_ok-places.ensures.nodes ∙ ap (λ l. nodes_of l c.as_slice-4.result.now) all ∙ ap (nodes_of (joined trees)) c.as_slice-4.ensures.value in
     let items = c.in_ok-names.ensures.items ∙ ap items_of (c.as_slice-2.ensures.value ∙ c.in_ok-additions.ensures.joined) in
     let mains = c.in_ok-mains.ensures ∙ ap (mains_from 0) c.as_slice.ensures.value in

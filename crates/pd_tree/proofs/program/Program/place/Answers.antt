@@ -8,13 +8,13 @@ use Rattle.pd_tree.proofs.program.Program.place.Goals as goal
 pub index-requires : goal.index-requires
 index-requires c =
     let i = c.self.inside in
-    let below : c.n.inside.0 < length i.additions.items = below-kept i.parts.items i.variables.items i.additions.items i.places.items i.names.items i.roots.items i.mains.items i.entries.items c.args.self.now c.args.n c.n.inside.0 c.self.view_is c.n.view_is c.requires c.self.invariant.0.nodes in
+    let below : c.n.inside.0 < length i.additions.items = below-kept i.parts.items i.changes.items i.additions.items i.places.items i.names.items i.roots.items i.mains.items i.entries.items c.args.self.now c.args.n c.n.inside.0 c.self.view_is c.n.view_is c.requires c.self.invariant.0.nodes in
     omega (arith, i.places.ok.0, c.self.invariant.0.nodes)
 
 pub returns-clause-place : goal.returns-clause-place
 returns-clause-place c =
     let i = c.self.inside in
-    let below : c.n.inside.0 < length i.additions.items = below-kept i.parts.items i.variables.items i.additions.items i.places.items i.names.items i.roots.items i.mains.items i.entries.items c.args.self.now c.args.n c.n.inside.0 c.self.view_is c.n.view_is c.requires c.self.invariant.0.nodes in
-    place-kept i.parts.items i.variables.items (slice_index_or i.additions.items c.n.inside.0 no_addition) _ _ _
-    (node-kept i.parts.items i.variables.items i.additions.items i.places.items i.names.items i.roots.items i.mains.items i.entries.items c.args.self.now c.args.n c.n.inside.0 c.self.view_is c.n.view_is below c.self.invariant.0.nodes)
+    let below : c.n.inside.0 < length i.additions.items = below-kept i.parts.items i.changes.items i.additions.items i.places.items i.names.items i.roots.items i.mains.items i.entries.items c.args.self.now c.args.n c.n.inside.0 c.self.view_is c.n.view_is c.requires c.self.invariant.0.nodes in
+    place-kept i.parts.items i.changes.items i.additions.items (slice_index_or i.additions.items c.n.inside.0 no_addition) _ _ _
+    (node-kept i.parts.items i.changes.items i.additions.items i.places.items i.names.items i.roots.items i.mains.items i.entries.items c.args.self.now c.args.n c.n.inside.0 c.self.view_is c.n.view_is below c.self.invariant.0.nodes)
     (get_or_read i.places.items _ _ (omega (arith, c.self.invariant.0.nodes)) c.index.ensures no_place)
