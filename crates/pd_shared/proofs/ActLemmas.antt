@@ -9,7 +9,11 @@ use lib.ListN.{get_elem?}
 use Rattle.pd_board.proofs.ChainLemmas.{by_eq}
 use Rattle.pd_board.specs.declared.answers.Known.{Known}
 use Rattle.pd_board.specs.declared.answers.Known.TheVariants as knowns
+use Rattle.pd_board.specs.declared.answers.Attach.{Attach}
+use Rattle.pd_board.specs.declared.answers.Attach.TheVariants as attaches
 use Rattle.pd_board.specs.declared.answers.Dispose.TheVariants as disposes
+use Rattle.pd_board.specs.declared.answers.Toggle.{Toggle}
+use Rattle.pd_board.specs.declared.answers.Toggle.TheVariants as toggles
 use Rattle.pd_board.specs.declared.answers.ActResult.{ActResult}
 use Rattle.pd_board.specs.declared.answers.ActResult.TheVariants as acts
 use Rattle.pd_board.specs.Answers.{is_dispose, is_disposal, has_dispose, has_disposal}
@@ -29,7 +33,7 @@ use Rattle.pd_core.proofs.Whole.{whole_total}
 use Rattle.pd_core.proofs.Facts.{known_disposed_of, known_set_gone, known_set as attached_known}
 use Rattle.pd_board.specs.Journal.{Entries}
 use Rattle.pd_shared.specs.Book.{Book, known_at}
-use Rattle.pd_shared.specs.Tied.{told, act_of, dispose_of, attach_as, attach_of, known_set, made_by, first_by, late_by, count_by, toggle_by, none_taken, is_alone, IsKnown, AreDeeds, KnowsAlone, AreReads, KnowsTried, sight_of, before_of, IsTied}
+use Rattle.pd_shared.specs.Tied.{told, act_as, act_of, toggle_as, dispose_of, attach_as, attach_of, known_set, made_by, first_by, late_by, count_by, toggle_by, says_gone, has_gone, none_taken, is_alone, IsKnown, AreDeeds, KnowsAlone, AreReads, KnowsTried, sight_of, before_of, IsTied}
 
 -- ---- tests of a flag
 
@@ -139,7 +143,7 @@ alone_change v w ks rs rs' b x within k same grow new a c gone = let was = sym s
     (λ (e : c ≡ b). subst (λ (i : ℕ). has_disposal i rs' ≡ true) (sym e) (new was (sym (get_or-set_at ks b c x knowns.Fresh e within) ∙ gone)))
     (λ (ne : c ≢ b). grow c (k was c (sym (get_or-set_other ks b c x knowns.Fresh ne) ∙ gone)))
 
--- ---- what was tried
+-- ---- what answers say is disposed
 
 any_cases : (p : ActResult → Bool) (rs : List ActResult) (r : ActResult) → list_any p (rs ++ r ∷ []) ≡ true → (list_any p rs ≡ true) ⊎ (p r ≡ true)
 any_cases p rs r h = cases (list_any p rs) (p r) (sym (list_any-append p rs (r ∷ [])) ∙ h)
@@ -149,15 +153,64 @@ any_cases p rs r h = cases (list_any p rs) (p r) (sym (list_any-append p rs (r �
     cases false true e = inr refl
     cases false false e = absurd (cc)
 
-tried_change : (ks : List Known) (rs : List ActResult) (r : ActResult) (b : ℕ) (x : Known) → b < length ks → KnowsTried ks rs → ((c : ℕ) → c ≢ b → is_dispose c r ≡ false) → (known_at ks b ≡ knowns.Disposed → x ≡ knowns.Disposed) → (is_dispose b r ≡ true → x ≡ knowns.Disposed) → KnowsTried (slice_set ks b x) (rs ++ r ∷ [])
+tried_change : (ks : List Known) (rs : List ActResult) (r : ActResult) (b : ℕ) (x : Known) → b < length ks → KnowsTried ks rs → ((c : ℕ) → c ≢ b → says_gone c r ≡ false) → (known_at ks b ≡ knowns.Disposed → x ≡ knowns.Disposed) → (says_gone b r ≡ true → x ≡ knowns.Disposed) → KnowsTried (slice_set ks b x) (rs ++ r ∷ [])
 tried_change ks rs r b x within k apart stays now c h = by_eq c b
-    (λ (e : c ≡ b). get_or-set_at ks b c x knowns.Fresh e within ∙ ⊎_elim (λ (was : has_dispose c rs ≡ true). stays (subst (λ (i : ℕ). known_at ks i ≡ knowns.Disposed) e (k c was))) (λ (is : is_dispose c r ≡ true). now (subst (λ (i : ℕ). is_dispose i r ≡ true) e is)) (any_cases (is_dispose c) rs r h))
-    (λ (ne : c ≢ b). get_or-set_other ks b c x knowns.Fresh ne ∙ ⊎_elim (λ (was : has_dispose c rs ≡ true). k c was) (λ (is : is_dispose c r ≡ true). absurd (let q : true ≡ false = sym is ∙ apart c ne in cc)) (any_cases (is_dispose c) rs r h))
+    (λ (e : c ≡ b). get_or-set_at ks b c x knowns.Fresh e within ∙ ⊎_elim (λ (was : has_gone c rs ≡ true). stays (subst (λ (i : ℕ). known_at ks i ≡ knowns.Disposed) e (k c was))) (λ (is : says_gone c r ≡ true). now (subst (λ (i : ℕ). says_gone i r ≡ true) e is)) (any_cases (says_gone c) rs r h))
+    (λ (ne : c ≢ b). get_or-set_other ks b c x knowns.Fresh ne ∙ ⊎_elim (λ (was : has_gone c rs ≡ true). k c was) (λ (is : says_gone c r ≡ true). absurd (let q : true ≡ false = sym is ∙ apart c ne in cc)) (any_cases (says_gone c) rs r h))
 
 pub tried_same : (ks : List Known) (rs : List ActResult) (b : ℕ) (x : Known) → b < length ks → KnowsTried ks rs → (known_at ks b ≡ knowns.Disposed → x ≡ knowns.Disposed) → KnowsTried (slice_set ks b x) rs
 tried_same ks rs b x within k stays c h = by_eq c b
     (λ (e : c ≡ b). get_or-set_at ks b c x knowns.Fresh e within ∙ stays (subst (λ (i : ℕ). known_at ks i ≡ knowns.Disposed) e (k c h)))
     (λ (ne : c ≢ b). get_or-set_other ks b c x knowns.Fresh ne ∙ k c h)
+
+pub any_more : {A : Type 0} (p q : A → Bool) → ((x : A) → p x ≡ true → q x ≡ true) → (xs : List A) → list_any p xs ≡ true → list_any q xs ≡ true
+any_more p q h [] e = e
+any_more p q h (x ∷ xs) e = ⊎_elim
+    (λ (s : p x ≡ true). or_first (q x) (list_any q xs) (h x s))
+    (λ (s : p x ≡ false). or_second (q x) (list_any q xs) (any_more p q h xs (sym (ap (λ (t : Bool). t || list_any p xs) s) ∙ e)))
+    (yes_or_no (p x))
+
+-- an answer of a dispose says so
+pub dispose_says : (b : ℕ) (rs : List ActResult) → has_dispose b rs ≡ true → has_gone b rs ≡ true
+dispose_says b rs = any_more (is_dispose b) (says_gone b) each rs
+  where
+    each : (r : ActResult) → is_dispose b r ≡ true → says_gone b r ≡ true
+    each (acts.Disposed c a) e = e
+    each (acts.Attached c a) e = absurd (cc)
+    each (acts.Enabled c a) e = absurd (cc)
+    each (acts.Disabled c a) e = absurd (cc)
+
+-- an answer of an act on another binding doesn't
+attach_apart : (b c : ℕ) (a : Attach) → c ≢ b → says_gone c (acts.Attached b a) ≡ false
+attach_apart b c attaches.Gone ne = ne_eqb b c (λ e. ne (sym e))
+attach_apart b c attaches.Attached ne = refl
+attach_apart b c attaches.Already ne = refl
+
+pub toggle_apart : (kind : Bool) (b c : ℕ) (t : Toggle) → c ≢ b → says_gone c (act_as kind b t) ≡ false
+toggle_apart true b c toggles.Gone ne = ne_eqb b c (λ e. ne (sym e))
+toggle_apart false b c toggles.Gone ne = ne_eqb b c (λ e. ne (sym e))
+toggle_apart true b c (toggles.At n) ne = refl
+toggle_apart false b c (toggles.At n) ne = refl
+toggle_apart true b c toggles.Already ne = refl
+toggle_apart false b c toggles.Already ne = refl
+
+-- and where it does, its step found the binding disposed
+attach_says : (b : ℕ) (on gone : Bool) → says_gone b (acts.Attached b (attach_as on gone)) ≡ true → gone ≡ true
+attach_says b on true e = refl
+attach_says b true false e = absurd (cc)
+attach_says b false false e = absurd (cc)
+
+pub toggle_says : (kind : Bool) (b : ℕ) (gone same_way : Bool) (n : ℕ) → says_gone b (act_as kind b (toggle_as gone same_way n)) ≡ true → gone ≡ true
+toggle_says kind b true s n e = refl
+toggle_says true b false true n e = absurd (cc)
+toggle_says true b false false n e = absurd (cc)
+toggle_says false b false true n e = absurd (cc)
+toggle_says false b false false n e = absurd (cc)
+
+set_gone : (w : ℕ) (k : Known) → (disposed w == 1) ≡ true → known_set k w ≡ knowns.Disposed
+set_gone w knowns.Disposed e = refl
+set_gone w knowns.Fresh e = ap (λ (t : Bool). if t then knowns.Disposed else knowns.Attached) e
+set_gone w knowns.Attached e = ap (λ (t : Bool). if t then knowns.Disposed else knowns.Attached) e
 
 -- ---- one more answer
 
@@ -180,7 +233,7 @@ deeds_act d n e m r k is sights made firsts late counts turned = subst (λ (y : 
     more f xs q = ap (λ ys. ys ++ filter_map f (r ∷ [])) q ∙ sym (filter_map-append f e.replies (r ∷ []))
 
 pub tied_act : (p : Layout) (v w : View) (k : Book) (m : Entries) (b : ℕ) (x : Known) (r : ActResult) → b < bindings p → IsTied p v k → m ≡ with_reply k.entries r → w.attaching ≡ None → w.talk ≡ v.talk → w.loads ≡ v.loads → w.cleared ≡ v.cleared → is_alone w ≡ is_alone v
-    → AreDeeds w.deeds m → x ≡ told (known w b) → ((c : ℕ) → c ≢ b → known w c ≡ known v c) → (is_alone v ≡ true → x ≡ knowns.Disposed → has_disposal b (k.entries.replies ++ r ∷ []) ≡ true) → ((c : ℕ) → c ≢ b → is_dispose c r ≡ false) → (known_at k.known b ≡ knowns.Disposed → x ≡ knowns.Disposed) → (is_dispose b r ≡ true → x ≡ knowns.Disposed) → IsTied p w (record k { known = slice_set k.known b x; entries = m })
+    → AreDeeds w.deeds m → x ≡ told (known w b) → ((c : ℕ) → c ≢ b → known w c ≡ known v c) → (is_alone v ≡ true → x ≡ knowns.Disposed → has_disposal b (k.entries.replies ++ r ∷ []) ≡ true) → ((c : ℕ) → c ≢ b → says_gone c r ≡ false) → (known_at k.known b ≡ knowns.Disposed → x ≡ knowns.Disposed) → (says_gone b r ≡ true → x ≡ knowns.Disposed) → IsTied p w (record k { known = slice_set k.known b x; entries = m })
 tied_act p v w k m b x r lt t is idle talk loads cleared same deeds here others new apart stays now = record {
   idle = idle;
   known_is = known_change p v w k.known b x lt t.known_is here others;
@@ -284,7 +337,7 @@ tied_attached p b w v m k es x lt t rest f later is =
     (λ a gone. disposal_stays b k.entries.replies r
     (alone_disposed p f.0.words f.0.views f.2.0 b m k.entries f.1 f.2.1 was (ap (λ (y : View). is_alone y) rest ∙ a) lt
     (ap disposed f.3 ∙ gone_by (known_at k.known b) (sym later ∙ gone) (λ q. sym (ap disposed f.3) ∙ gone_there p f.0.words f.0.views f.2.0 b m k.known f.1 f.2.1 lt (t.known_is.0, λ c h. t.known_is.1 c h ∙ ap told (sym (known_same c))) q))))
-    (λ c ne. refl) (λ gone. later ∙ ap (λ y. known_set y w) gone) (λ q. absurd (cc))
+    (λ c ne. attach_apart b c (attach_of w) ne) (λ gone. later ∙ ap (λ y. known_set y w) gone) (λ q. later ∙ set_gone w (known_at k.known b) (attach_says b (attached w == 1) (disposed w == 1) q))
   where
     by_test : (s : Bool) → (if s then knowns.Disposed else knowns.Attached) ≡ knowns.Disposed → s ≡ true
     by_test true e = refl

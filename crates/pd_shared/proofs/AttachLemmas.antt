@@ -23,7 +23,7 @@ use Rattle.pd_core.proofs.Attaches.{eqb_is}
 use Rattle.pd_core.proofs.Whole.{whole_total}
 use Rattle.pd_shared.specs.Book.{Book, known_at}
 use Rattle.pd_shared.specs.Tied.{attach_as, attach_of, known_set, made_by, first_by, is_alone, IsKnown, AreDeeds, KnowsAlone, KnowsTried}
-use Rattle.pd_shared.proofs.ActLemmas.{not_flag, gone_there, attached_there, alone_disposed, or_first, or_second, alone_is, over_alone}
+use Rattle.pd_shared.proofs.ActLemmas.{not_flag, gone_there, attached_there, alone_disposed, or_first, or_second, alone_is, over_alone, dispose_says}
 use Rattle.pd_shared.proofs.NumberLemmas.{numbers_low, over_own}
 
 pub idle_start : (b : ℕ) (a : Option Attaching) → a ≡ None → (past_in a b ≡ 0) × (half_in a b ≡ false)
@@ -149,7 +149,7 @@ module _ (p : Layout) (b w : ℕ) (m : View) (k : Book) (lt : b < bindings p) (k
       let flags = attached_both (attached w == 1) (disposed w == 1) e in (
         first_reply (λ q. let bad : attaches.Attached ≡ attaches.Already = sym e ∙ q in cc),
         false_left (has_dispose b k.entries.replies)
-            (λ q. let gone = gone_there p f.0.words f.0.views f.2.0 b m k.known f.1 f.2.1 lt known_m (tried b q) in omega (arith, gone_here, gone, not_flag (disposed w) (disposed_fits w) flags.1)),
+            (λ q. let gone = gone_there p f.0.words f.0.views f.2.0 b m k.known f.1 f.2.1 lt known_m (tried b (dispose_says b k.entries.replies q)) in omega (arith, gone_here, gone, not_flag (disposed w) (disposed_fits w) flags.1)),
       )
 
   pub alone_first_when : is_alone m ≡ true → has_attach b k.entries.replies ≡ false → has_dispose b k.entries.replies ≡ false → attach_of w ≡ attaches.Attached

@@ -12,6 +12,7 @@ pub mod HeldLemmas
 pub mod MergeLemmas
 pub mod LeftLemmas
 pub mod AllLemmas
+pub mod CauseLemmas
 pub mod CloseLemmas
 pub mod StepLemmas
 pub mod CostLemmas

@@ -22,7 +22,7 @@ use Rattle.pd_core.proofs.Facts.{known_off_gone, known_on_gone}
 use Rattle.pd_board.specs.Journal.{Entries}
 use Rattle.pd_shared.specs.Book.{Book, known_at}
 use Rattle.pd_shared.specs.Tied.{told, act_of, toggle_of, toggle_as, known_switched, IsKnown, AreDeeds, IsTied}
-use Rattle.pd_shared.proofs.ActLemmas.{yes_or_no, not_flag, with_reply, deeds_act, tied_act, gone_there, alone_disposed, disposal_stays}
+use Rattle.pd_shared.proofs.ActLemmas.{yes_or_no, not_flag, with_reply, deeds_act, tied_act, gone_there, alone_disposed, disposal_stays, toggle_apart, toggle_says}
 use Rattle.pd_shared.proofs.NumberLemmas.{numbers_low, limit_is, turned_is}
 
 by_test : (s : Bool) (k : Known) → (k ≡ knowns.Disposed → s ≡ true) → (if s then knowns.Disposed else k) ≡ knowns.Disposed → s ≡ true
@@ -61,7 +61,8 @@ tied_off p b w v k m x lt t f later is =
     (λ c ne. same_known v next c (times_else c b v.found_disposed (disposed w == 1) ne) refl)
     (λ a gone. disposal_stays b k.entries.replies r (alone_disposed p f.0.words f.0.views f.2.0 b v k.entries f.1 f.2.1 t.deeds a lt
     (ap disposed f.3 ∙ eqb_is (disposed w) 1 (by_test (disposed w == 1) (known_at k.known b) (λ q. test_is w (sym (ap disposed f.3) ∙ gone_there p f.0.words f.0.views f.2.0 b v k.known f.1 f.2.1 lt t.known_is q)) (sym later ∙ gone)))))
-    (λ c ne. refl) (λ gone. later ∙ switched_gone w (known_at k.known b) gone) (λ q. absurd (cc))
+    (λ c ne. toggle_apart true b c (toggle_of true w) ne) (λ gone. later ∙ switched_gone w (known_at k.known b) gone)
+    (λ q. later ∙ ap (λ (s : Bool). if s then knowns.Disposed else known_at k.known b) (toggle_says true b (disposed w == 1) (beq (off w == 1) true) (sum_in w) q))
 
 pub tied_on : (p : Layout) (b w : ℕ) (v : View) (k : Book) (m : Entries) (x : Known) → b < bindings p → IsTied p v k → Found p (clear_off b) v w → x ≡ known_switched (known_at k.known b) w → m ≡ with_reply k.entries (acts.Enabled b (toggle_of false w))
     → IsTied p (after p (clear_off b) w v) (record k { known = slice_set k.known b x; entries = m })
@@ -75,7 +76,8 @@ tied_on p b w v k m x lt t f later is =
     (λ c ne. same_known v next c (times_else c b v.found_disposed (disposed w == 1) ne) refl)
     (λ a gone. disposal_stays b k.entries.replies r (alone_disposed p f.0.words f.0.views f.2.0 b v k.entries f.1 f.2.1 t.deeds a lt
     (ap disposed f.3 ∙ eqb_is (disposed w) 1 (by_test (disposed w == 1) (known_at k.known b) (λ q. test_is w (sym (ap disposed f.3) ∙ gone_there p f.0.words f.0.views f.2.0 b v k.known f.1 f.2.1 lt t.known_is q)) (sym later ∙ gone)))))
-    (λ c ne. refl) (λ gone. later ∙ switched_gone w (known_at k.known b) gone) (λ q. absurd (cc))
+    (λ c ne. toggle_apart false b c (toggle_of false w) ne) (λ gone. later ∙ switched_gone w (known_at k.known b) gone)
+    (λ q. later ∙ ap (λ (s : Bool). if s then knowns.Disposed else known_at k.known b) (toggle_says false b (disposed w == 1) (beq (off w == 1) false) (sum_in w) q))
 
 -- ---- their answers
 

@@ -1,7 +1,7 @@
 -- Definition, which public contracts cite.
 -- How what a token keeps in memory goes with the view of its pass.
 use Rattle.std.specs.Prelude.{◌≡◌, ℕ, ◌<◌, ◌≤◌, ◌==◌, ◌&&◌, ◌^◌, eqb, Bool, true, false, if◌then◌else◌, List, [], ◌∷◌, length, slice_index, map, Option, Some, None}
-use Rattle.std.specs.List.{filter_map}
+use Rattle.std.specs.List.{filter_map, list_any}
 use Rattle.std.specs.Bool.{beq}
 use Rattle.pd_board.specs.declared.answers.Known.{Known}
 use Rattle.pd_board.specs.declared.answers.Known.TheVariants as knowns
@@ -16,7 +16,7 @@ use Rattle.pd_board.specs.declared.answers.Toggle.TheVariants as toggles
 use Rattle.pd_board.specs.declared.answers.ActResult.{ActResult}
 use Rattle.pd_board.specs.declared.answers.ActResult.TheVariants as acts
 use Rattle.pd_board.specs.declared.answers.Sight.{Sight}
-use Rattle.pd_board.specs.Answers.{has_dispose, has_disposal}
+use Rattle.pd_board.specs.Answers.{has_disposal}
 use Rattle.pd_core.specs.declared.view.View.{View}
 use Rattle.pd_core.specs.declared.view.Talk.{Talk}
 use Rattle.pd_core.specs.declared.view.Deeds.{Deeds}
@@ -122,6 +122,18 @@ toggle_by (acts.Enabled b t) = Some (acts.Enabled b t)
 toggle_by (acts.Disabled b t) = Some (acts.Disabled b t)
 toggle_by _ = None
 
+-- whether the answer says that b is disposed: by this act, or before it
+abbrev pub says_gone : ℕ → ActResult → Bool
+says_gone b (acts.Disposed c _) = c == b
+says_gone b (acts.Attached c attaches.Gone) = c == b
+says_gone b (acts.Enabled c toggles.Gone) = c == b
+says_gone b (acts.Disabled c toggles.Gone) = c == b
+says_gone b _ = false
+
+-- whether one of the answers says that b is disposed
+abbrev pub has_gone : ℕ → List ActResult → Bool
+has_gone b replies = list_any (says_gone b) replies
+
 -- ---- whether no other pass ever stepped beside it
 
 -- whether the pass took in no other
@@ -164,9 +176,9 @@ pub record AreReads (p : Layout) (t : Talk) (ended : Bool) (sessions : List Read
 abbrev pub KnowsAlone : View → List Known → List ActResult → Type 0
 KnowsAlone v known_list replies = is_alone v ≡ true → (b : ℕ) → known_at known_list b ≡ knowns.Disposed → has_disposal b replies ≡ true
 
--- a binding that this seat disposed of, or tried to, is known as disposed
+-- a binding of which an answer of this seat says that it is disposed is known as disposed
 abbrev pub KnowsTried : List Known → List ActResult → Type 0
-KnowsTried known_list replies = (b : ℕ) → has_dispose b replies ≡ true → known_at known_list b ≡ knowns.Disposed
+KnowsTried known_list replies = (b : ℕ) → has_gone b replies ≡ true → known_at known_list b ≡ knowns.Disposed
 
 -- what the token keeps in memory is what the view of its pass knows
 pub record IsTied (p : Layout) (v : View) (k : Book) : Type 0 where
@@ -177,6 +189,6 @@ pub record IsTied (p : Layout) (v : View) (k : Book) : Type 0 where
   pub all_loads : length v.loads ≡ k.all_loads
   pub cleared : length v.cleared ≡ k.cleared
   pub alone : KnowsAlone v k.known k.entries.replies
-  -- what it disposed, or tried to, it knows as disposed
+  -- what its answers say is disposed it knows as disposed
   pub tried : KnowsTried k.known k.entries.replies
   pub loads : (length k.loads ≡ p.nodes) × ((n : ℕ) → slice_index k.loads n ≤ k.all_loads)
