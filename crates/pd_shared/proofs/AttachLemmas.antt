@@ -122,6 +122,12 @@ module _ (p : Layout) (b w : ℕ) (m : View) (k : Book) (lt : b < bindings p) (k
       let on = (f.1.each f.2.0 m f.2.1).done.made_is b lt (omega (arith, there, makings_are b m.deeds, over_own (makings b) m.deeds m.taken)) in
       omega (arith, here, on, not_made h))
 
+  pub again : has_attach b k.entries.replies ≡ true → attach_of w ≡ attaches.Already
+  again e =
+      let there = subst (λ (xs : List ℕ). 0 < times b xs) (sym deeds_m.made) (attach_there b k.entries.replies e) in
+      let on = (f.1.each f.2.0 m f.2.1).done.made_is b lt (omega (arith, there, makings_are b m.deeds, over_own (makings b) m.deeds m.taken)) in
+      ap (λ (s : Bool). attach_as s (disposed w == 1)) (eq-eqb (attached w) 1 (sym here ∙ on))
+
   alone_made : is_alone m ≡ true → 0 < attached w → has_attach b k.entries.replies ≡ true
   alone_made a on =
       let whole = alone_is m a in

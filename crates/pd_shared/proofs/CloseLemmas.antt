@@ -39,7 +39,7 @@ use Rattle.pd_shared.specs.declared.token.Token.{Token}
 use Rattle.pd_shared.specs.declared.sights.Sights.{Sights}
 use Rattle.pd_board.specs.Journal.{Entries}
 use Rattle.pd_shared.specs.Book.{book_of, known_at, reads_at}
-use Rattle.pd_shared.specs.Tied.{AreDeeds, AreReads, IsTied}
+use Rattle.pd_shared.specs.Tied.{IsInOrder, AreDeeds, AreReads, IsTied}
 use Rattle.pd_shared.specs.Held.{IsHeld}
 use Rattle.pd_shared.specs.Left.{DidLeave}
 use Rattle.pd_shared.specs.Sitting.{number_for}
@@ -407,6 +407,7 @@ closed p last ws tallies counts end tied held are answers =
       ends = λ whole. ends_fit p ws end.0 end.2.0 last.pass.view last.ended last.sessions.items last.ends end.1 end.2.1 (all whole) tied.reads;
       outcomes = λ whole left did b lt. let share = all whole in subst (IsOutcomeOfAll b (all_sights last.journal left) (all_replies last.journal left)) (sym (are.each b lt))
           (outcome_of_all p ws end.0 end.2.0 last.pass.view end.1 end.2.1 share last.journal left tied.deeds did b lt last.seats last.counts.items held);
+      order = λ left did b. (tied.deeds.order b, each_left (λ d. Unit {0}) (EachAfter (IsInOrder b)) (λ d e a u. a.order b) left last.pass.view.taken did (λ k d e. tt));
       causes = λ whole left did b lt. causes_of_all p ws end.0 end.2.0 last.pass.view end.1 end.2.1 (all whole) last.journal left tied.deeds did b lt;
       numbers = λ whole s lt. let share = all whole in subst (λ (n : ℕ). OnceBelow n (filter_map (number_for s) (last.pass.view.talk.numbers ++ last.pass.view.talk.handed))) (sym (answers.each s lt)) (answers_once p ws end.0 end.2.0 last.pass.view end.1 end.2.1 share s lt);
     }

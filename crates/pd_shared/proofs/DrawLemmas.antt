@@ -79,6 +79,7 @@ deeds_seen d n e m s loads k is before more = subst (λ (y : Deeds). AreDeeds y 
   late = k.late;
   counts = k.counts;
   toggles = k.toggles;
+  order = k.order;
 }))
 
 tied_seen : (p : Layout) (v w : View) (k : Book) (m : Entries) (b : ℕ) (x : Known) (s : Seen) → b < bindings p → IsTied p v k → m ≡ with_sight k.entries (sight_of s) k.all_loads → before_of s ≡ length v.loads → w.deeds ≡ record v.deeds { sights = v.deeds.sights ++ s ∷ [] } → w.attaching ≡ v.attaching → w.talk ≡ v.talk → w.loads ≡ v.loads → w.cleared ≡ v.cleared → is_alone w ≡ is_alone v

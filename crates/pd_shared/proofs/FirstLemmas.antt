@@ -48,7 +48,7 @@ tied_blank p t share draws granted ends on gone f known_is never =
     record {
       idle = refl;
       known_is = known_is;
-      deeds = subst (λ (e : Entries). AreDeeds no_deeds e) (sym f.journal) (record { sights = refl; befores = refl; made = refl; firsts = refl; late = refl; counts = refl; toggles = refl });
+      deeds = subst (λ (e : Entries). AreDeeds no_deeds e) (sym f.journal) (record { sights = refl; befores = refl; made = refl; firsts = refl; late = refl; counts = refl; toggles = refl; order = λ b j y lt. absurd (omega arith) });
       reads = record {
         ended_is = sym f.ended;
         sessions_are = ap length f.sessions ∙ long p.sessions unread;

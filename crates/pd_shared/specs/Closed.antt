@@ -24,7 +24,7 @@ use Rattle.pd_shared.specs.declared.token.Token.{Token}
 use Rattle.pd_shared.specs.declared.sights.Sights.{Sights}
 use Rattle.pd_board.specs.Journal.{Entries}
 use Rattle.pd_shared.specs.Sitting.{number_for}
-use Rattle.pd_shared.specs.Tied.{has_gone}
+use Rattle.pd_shared.specs.Tied.{has_gone, IsInOrder}
 use Rattle.pd_shared.specs.Left.{DidLeave, HasLearned}
 use Rattle.pd_shared.specs.Book.{known_at, reads_at}
 
@@ -151,7 +151,8 @@ pub record IsClosed (p : Layout) (last : Token) (tallies : List BindingTally) (c
   pub ends : IsWhole last → last.ends.last ≤ ends_of last.pass.view.talk
   pub outcomes : IsWhole last → (left : List Sights) → DidLeave left last.pass.view.taken → (b : ℕ) → b < bindings p
       → IsOutcomeOfAll b (all_sights last.journal left) (all_replies last.journal left) (slice_index_or tallies b no_tally)
-  -- each toggle that found nothing to change has its cause
+  -- the answers of each seat are in order, and each toggle that found nothing to change has its cause
+  pub order : (left : List Sights) → DidLeave left last.pass.view.taken → (b : ℕ) → OfEachSeat (EachAfter (IsInOrder b)) last.journal left
   pub causes : IsWhole last → (left : List Sights) → DidLeave left last.pass.view.taken → (b : ℕ) → b < bindings p
       → OfEachSeat (EachAfter (HasCause b (all_replies last.journal left))) last.journal left
   -- the answer numbers of a session are those below its number of answers, each once

@@ -16,7 +16,8 @@ use Rattle.pd_board.specs.declared.answers.Toggle.TheVariants as toggles
 use Rattle.pd_board.specs.declared.answers.ActResult.{ActResult}
 use Rattle.pd_board.specs.declared.answers.ActResult.TheVariants as acts
 use Rattle.pd_board.specs.declared.answers.Sight.{Sight}
-use Rattle.pd_board.specs.Answers.{has_disposal}
+use Rattle.pd_board.specs.Answers.{has_attach, has_disposal}
+use Rattle.pd_board.specs.Kept.{EachAfter}
 use Rattle.pd_core.specs.declared.view.View.{View}
 use Rattle.pd_core.specs.declared.view.Talk.{Talk}
 use Rattle.pd_core.specs.declared.view.Deeds.{Deeds}
@@ -134,6 +135,18 @@ says_gone b _ = false
 abbrev pub has_gone : ℕ → List ActResult → Bool
 has_gone b replies = list_any (says_gone b) replies
 
+-- ---- the order of the answers of one seat
+
+-- what the answer of an act on b says, by those of the same seat before it
+pub record IsInOrder (b : ℕ) (before : List ActResult) (r : ActResult) : Type 0 where
+  -- after an attach, another one found it attached
+  pub attached : has_attach b before ≡ true → (a : Attach) → r ≡ acts.Attached b a → a ≡ attaches.Already
+  -- after an answer that says that it is disposed, an attach didn't attach it, a dispose found it disposed, and so did a toggle
+  pub not_attached : has_gone b before ≡ true → r ≡ acts.Attached b attaches.Attached → ⊥
+  pub disposed : has_gone b before ≡ true → (a : Dispose) → r ≡ acts.Disposed b a → a ≡ disposes.Already
+  pub enabled : has_gone b before ≡ true → (t : Toggle) → r ≡ acts.Enabled b t → t ≡ toggles.Gone
+  pub disabled : has_gone b before ≡ true → (t : Toggle) → r ≡ acts.Disabled b t → t ≡ toggles.Gone
+
 -- ---- whether no other pass ever stepped beside it
 
 -- whether the pass took in no other
@@ -151,7 +164,7 @@ is_alone v = eqb v.seat_share (2 ^ 32) && none_taken v.taken
 abbrev pub IsKnown : Layout → View → List Known → Type 0
 IsKnown p v known_list = (length known_list ≡ bindings p) × ((b : ℕ) → b < bindings p → known_at known_list b ≡ told (known v b))
 
--- the sights and the answers of acts are what the pass did
+-- the sights and the answers of acts are what the pass did, and each answer is one that may come after those before it
 pub record AreDeeds (d : Deeds) (e : Entries) : Type 0 where
   pub sights : e.sights ≡ map sight_of d.sights
   pub befores : e.sight_loads ≡ map before_of d.sights
@@ -160,6 +173,7 @@ pub record AreDeeds (d : Deeds) (e : Entries) : Type 0 where
   pub late : d.late ≡ filter_map late_by e.replies
   pub counts : d.counts ≡ filter_map count_by e.replies
   pub toggles : map act_of d.toggles ≡ filter_map toggle_by e.replies
+  pub order : (b : ℕ) → EachAfter (IsInOrder b) e.replies
 
 -- the reads of the words of sessions and of ended contexts
 pub record AreReads (p : Layout) (t : Talk) (ended : Bool) (sessions : List Reads) (ends : Reads) : Type 0 where
