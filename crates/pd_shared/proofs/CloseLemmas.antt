@@ -43,9 +43,9 @@ use Rattle.pd_shared.specs.Tied.{IsInOrder, AreDeeds, AreReads, IsTied}
 use Rattle.pd_shared.specs.Held.{IsHeld}
 use Rattle.pd_shared.specs.Left.{DidLeave}
 use Rattle.pd_shared.specs.Sitting.{number_for}
-use Rattle.pd_shared.specs.Closed.{tally_by, AreTallies, AreNumbers, OnceBelow, is_first, disables_from, enables_from, HasCause, OfEachSeat, IsOutcomeOfAll, all_sights, all_replies, IsClosed, CountsOnce, AnswersOnce}
+use Rattle.pd_shared.specs.Closed.{tally_by, AreTallies, AreNumbers, OnceBelow, is_first, disables_from, enables_from, HasCause, OfEachSeat, IsOutcomeOfAll, all_sights, all_replies, IsClosed, CountsOnce, AnswersOnce, TogglesHaveCauses, ReadsWithin}
 use Rattle.std.proofs.Math.Logic.{∥∥₁_elim}
-use Rattle.std.specs.Coded.{coded_ℕ}
+use Rattle.std.specs.Coded.{coded_ℕ, coded_bool, le_prop}
 use base.Stored.{Coded-set}
 use Rattle.pd_shared.proofs.ActLemmas.{not_flag, yes_or_no, gone_there, attached_there}
 use Rattle.pd_shared.proofs.NumberLemmas.{over_own, off_fits, toggles_in, toggles_are}
@@ -407,6 +407,7 @@ closed p last ws tallies counts end tied held are answers =
       ends = λ whole. ends_fit p ws end.0 end.2.0 last.pass.view last.ended last.sessions.items last.ends end.1 end.2.1 (all whole) tied.reads;
       outcomes = λ whole left did b lt. let share = all whole in subst (IsOutcomeOfAll b (all_sights last.journal left) (all_replies last.journal left)) (sym (are.each b lt))
           (outcome_of_all p ws end.0 end.2.0 last.pass.view end.1 end.2.1 share last.journal left tied.deeds did b lt last.seats last.counts.items held);
+      others_ends = λ whole left learned k d lt_k. let low = ends_fit p ws end.0 end.2.0 last.pass.view last.ended last.sessions.items last.ends end.1 end.2.1 (all whole) tied.reads in omega (arith, (learned k d lt_k).ends, low);
       order = λ left did b. (tied.deeds.order b, each_left (λ d. Unit {0}) (EachAfter (IsInOrder b)) (λ d e a u. a.order b) left last.pass.view.taken did (λ k d e. tt));
       causes = λ whole left did b lt. causes_of_all p ws end.0 end.2.0 last.pass.view end.1 end.2.1 (all whole) last.journal left tied.deeds did b lt;
       numbers = λ whole s lt. let share = all whole in subst (λ (n : ℕ). OnceBelow n (filter_map (number_for s) (last.pass.view.talk.numbers ++ last.pass.view.talk.handed))) (sym (answers.each s lt)) (answers_once p ws end.0 end.2.0 last.pass.view end.1 end.2.1 share s lt);
@@ -431,3 +432,21 @@ counts_once p last tallies read counts kept is = subst (CountsOnce last) (sym is
 
 pub answers_once_all : (p : Layout) (last : Token) (tallies : List BindingTally) (counts read : List ℕ) → ∥ IsClosed p last tallies counts ∥₁ → read ≡ counts → AnswersOnce last read
 answers_once_all p last tallies counts read kept is = subst (AnswersOnce last) (sym is) (λ whole s lt x. ∥∥₁_elim kept (Coded-set coded_ℕ _ _) (λ (h : IsClosed p last tallies counts). h.numbers whole s (omega (arith, h.sessions_are)) x))
+
+-- a cause is a fact, so it may come from what is only known to hold
+cause_by : {X : Type 0} (b : ℕ) (replies before : List ActResult) (r : ActResult) → ∥ X ∥₁ → (X → HasCause b replies before r) → HasCause b replies before r
+cause_by {X} b replies before r kept h = record {
+  disabled = λ is. ∥∥₁_elim kept (Coded-set coded_bool _ _) (λ (x : X). (h x).disabled is);
+  disabled_since = λ is n had. ∥∥₁_elim kept (Coded-set coded_bool _ _) (λ (x : X). (h x).disabled_since is n had);
+  enabled_since = λ is n had. ∥∥₁_elim kept (Coded-set coded_bool _ _) (λ (x : X). (h x).enabled_since is n had);
+}
+
+pub toggles_have_causes : (p : Layout) (last : Token) (tallies read : List BindingTally) (counts : List ℕ) → ∥ IsClosed p last tallies counts ∥₁ → read ≡ tallies → TogglesHaveCauses last read
+toggles_have_causes p last tallies read counts kept is = subst (TogglesHaveCauses last) (sym is) (λ whole left did b lt.
+    let of : (h : IsClosed p last tallies counts) → OfEachSeat (EachAfter (HasCause b (all_replies last.journal left))) last.journal left = (λ h. h.causes whole left did b (omega (arith, h.bindings_are))) in (
+      λ k d low. cause_by b (all_replies last.journal left) _ _ kept (λ h. (of h).0 k d low),
+      λ i s there k d low. cause_by b (all_replies last.journal left) _ _ kept (λ h. (of h).1 i s there k d low),
+    ))
+
+pub reads_within : (p : Layout) (last : Token) (tallies : List BindingTally) (counts read : List ℕ) → ∥ IsClosed p last tallies counts ∥₁ → read ≡ counts → ReadsWithin last read
+reads_within p last tallies counts read kept is = subst (ReadsWithin last) (sym is) (λ s lt. ∥∥₁_elim kept le_prop (λ (h : IsClosed p last tallies counts). h.own.read s (omega (arith, h.sessions_are))))

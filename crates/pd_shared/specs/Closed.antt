@@ -147,8 +147,9 @@ pub record IsClosed (p : Layout) (last : Token) (tallies : List BindingTally) (c
   -- what the last seat says, and each seat from which it learned, fits the tally
   pub own : FitsTally p tallies counts last.journal.replies last.sessions.items
   pub others : (left : List Sights) → HasLearned last left → All (λ s. FitsTally p tallies counts s.journal.replies s.sessions.items) left
-  -- it read of ended contexts at most how many its seat and those that it took in ended
+  -- what they read of ended contexts is at most how many the last seat, and those that it took in, ended
   pub ends : IsWhole last → last.ends.last ≤ ends_of last.pass.view.talk
+  pub others_ends : IsWhole last → (left : List Sights) → HasLearned last left → All (λ s. s.ends.last ≤ ends_of last.pass.view.talk) left
   pub outcomes : IsWhole last → (left : List Sights) → DidLeave left last.pass.view.taken → (b : ℕ) → b < bindings p
       → IsOutcomeOfAll b (all_sights last.journal left) (all_replies last.journal left) (slice_index_or tallies b no_tally)
   -- the answers of each seat are in order, and each toggle that found nothing to change has its cause
@@ -169,3 +170,12 @@ CountsOnce last tallies = IsWhole last → (left : List Sights) → DidLeave lef
 -- and so does each answer number of a session, among those that all seats took
 abbrev pub AnswersOnce : Token → List ℕ → Type 0
 AnswersOnce last counts = IsWhole last → (s : ℕ) → s < length counts → OnceBelow (slice_index counts s) (filter_map (number_for s) (last.pass.view.talk.numbers ++ last.pass.view.talk.handed))
+
+-- each toggle of a seat that found nothing to change has its cause in the answers of all seats
+abbrev pub TogglesHaveCauses : Token → List BindingTally → Type 0
+TogglesHaveCauses last tallies = IsWhole last → (left : List Sights) → DidLeave left last.pass.view.taken → (b : ℕ) → b < length tallies
+    → OfEachSeat (EachAfter (HasCause b (all_replies last.journal left))) last.journal left
+
+-- what the last seat, or one that it took in, read of a session is at most its number of answers
+abbrev pub ReadsWithin : Token → List ℕ → Type 0
+ReadsWithin last counts = (s : ℕ) → s < length counts → (reads_at last.sessions.items s).last ≤ slice_index counts s
