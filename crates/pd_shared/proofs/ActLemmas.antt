@@ -36,7 +36,7 @@ use Rattle.pd_core.proofs.Whole.{whole_total}
 use Rattle.pd_core.proofs.Facts.{known_disposed_of, known_set_gone, known_set as attached_known}
 use Rattle.pd_board.specs.Journal.{Entries}
 use Rattle.pd_shared.specs.Book.{Book, known_at}
-use Rattle.pd_shared.specs.Tied.{told, act_as, act_of, toggle_as, dispose_of, attach_as, attach_of, known_set, made_by, first_by, late_by, count_by, toggle_by, says_gone, has_gone, IsInOrder, none_taken, is_alone, IsKnown, AreDeeds, KnowsAlone, AreReads, KnowsTried, sight_of, before_of, IsTied}
+use Rattle.pd_shared.specs.Tied.{told, act_as, act_of, toggle_as, dispose_of, attach_as, attach_of, known_set, made_by, first_by, late_by, count_by, toggle_by, says_gone, has_gone, IsInOrder, none_taken, is_alone, IsKnown, AreDeeds, KnowsAlone, AreReads, KnowsGone, sight_of, before_of, IsTied}
 
 -- ---- tests of a flag
 
@@ -156,13 +156,13 @@ any_cases p rs r h = cases (list_any p rs) (p r) (sym (list_any-append p rs (r �
     cases false true e = inr refl
     cases false false e = absurd (cc)
 
-tried_change : (ks : List Known) (rs : List ActResult) (r : ActResult) (b : ℕ) (x : Known) → b < length ks → KnowsTried ks rs → ((c : ℕ) → c ≢ b → says_gone c r ≡ false) → (known_at ks b ≡ knowns.Disposed → x ≡ knowns.Disposed) → (says_gone b r ≡ true → x ≡ knowns.Disposed) → KnowsTried (slice_set ks b x) (rs ++ r ∷ [])
-tried_change ks rs r b x within k apart stays now c h = by_eq c b
+gone_change : (ks : List Known) (rs : List ActResult) (r : ActResult) (b : ℕ) (x : Known) → b < length ks → KnowsGone ks rs → ((c : ℕ) → c ≢ b → says_gone c r ≡ false) → (known_at ks b ≡ knowns.Disposed → x ≡ knowns.Disposed) → (says_gone b r ≡ true → x ≡ knowns.Disposed) → KnowsGone (slice_set ks b x) (rs ++ r ∷ [])
+gone_change ks rs r b x within k apart stays now c h = by_eq c b
     (λ (e : c ≡ b). get_or-set_at ks b c x knowns.Fresh e within ∙ ⊎_elim (λ (was : has_gone c rs ≡ true). stays (subst (λ (i : ℕ). known_at ks i ≡ knowns.Disposed) e (k c was))) (λ (is : says_gone c r ≡ true). now (subst (λ (i : ℕ). says_gone i r ≡ true) e is)) (any_cases (says_gone c) rs r h))
     (λ (ne : c ≢ b). get_or-set_other ks b c x knowns.Fresh ne ∙ ⊎_elim (λ (was : has_gone c rs ≡ true). k c was) (λ (is : says_gone c r ≡ true). absurd (let q : true ≡ false = sym is ∙ apart c ne in cc)) (any_cases (says_gone c) rs r h))
 
-pub tried_same : (ks : List Known) (rs : List ActResult) (b : ℕ) (x : Known) → b < length ks → KnowsTried ks rs → (known_at ks b ≡ knowns.Disposed → x ≡ knowns.Disposed) → KnowsTried (slice_set ks b x) rs
-tried_same ks rs b x within k stays c h = by_eq c b
+pub gone_same : (ks : List Known) (rs : List ActResult) (b : ℕ) (x : Known) → b < length ks → KnowsGone ks rs → (known_at ks b ≡ knowns.Disposed → x ≡ knowns.Disposed) → KnowsGone (slice_set ks b x) rs
+gone_same ks rs b x within k stays c h = by_eq c b
     (λ (e : c ≡ b). get_or-set_at ks b c x knowns.Fresh e within ∙ stays (subst (λ (i : ℕ). known_at ks i ≡ knowns.Disposed) e (k c h)))
     (λ (ne : c ≢ b). get_or-set_other ks b c x knowns.Fresh ne ∙ k c h)
 
@@ -295,7 +295,7 @@ tied_act p v w k m b x r lt t is idle talk loads cleared same deeds here others 
   cleared = ap length cleared ∙ t.cleared;
   alone = subst (λ (y : Entries). KnowsAlone w (slice_set k.known b x) y.replies) (sym is)
       (alone_change v w k.known k.entries.replies (k.entries.replies ++ r ∷ []) b x (omega (arith, t.known_is.0)) t.alone same (λ c h. disposal_stays c k.entries.replies r h) new);
-  tried = subst (λ (y : Entries). KnowsTried (slice_set k.known b x) y.replies) (sym is) (tried_change k.known k.entries.replies r b x (omega (arith, t.known_is.0)) t.tried apart stays now);
+  gone = subst (λ (y : Entries). KnowsGone (slice_set k.known b x) y.replies) (sym is) (gone_change k.known k.entries.replies r b x (omega (arith, t.known_is.0)) t.gone apart stays now);
   loads = t.loads;
 }
 
@@ -318,7 +318,7 @@ tied_disposed p b w v k m lt t f is =
     (deeds_act v.deeds next.deeds k.entries m r t.deeds is refl (sym (append-nil v.deeds.made)) (sym (append-nil v.deeds.firsts)) (sym (append-nil v.deeds.late))
     (ap (λ (s : Bool). v.deeds.counts ++ only_if s (b, sum_in w)) (flag_not (disposed w) (disposed_fits w)) ∙ ap (λ (xs : List (ℕ × ℕ)). v.deeds.counts ++ xs) (count_case (disposed w == 1) b (sum_in w)))
     (sym (append-nil (map act_of v.deeds.toggles)))
-    (order_dispose b (dispose_of w) k.entries.replies (λ h. ap (λ (s : Bool). if s then disposes.Already else disposes.Disposed (sum_in w)) (eq-eqb (disposed w) 1 (sym (ap disposed f.3) ∙ gone_there p f.0.words f.0.views f.2.0 b v k.known f.1 f.2.1 lt t.known_is (t.tried b h))))))
+    (order_dispose b (dispose_of w) k.entries.replies (λ h. ap (λ (s : Bool). if s then disposes.Already else disposes.Disposed (sum_in w)) (eq-eqb (disposed w) 1 (sym (ap disposed f.3) ∙ gone_there p f.0.words f.0.views f.2.0 b v k.known f.1 f.2.1 lt t.known_is (t.gone b h))))))
     (ap told (sym (known_disposed_of p b w v)))
     (λ c ne. same_known v next c (times_else c b v.found_disposed true ne) refl)
     (λ a _. ⊎_elim
@@ -385,7 +385,7 @@ tied_attached p b w v m k es x lt t rest f later is again =
     (ap (λ (s : Bool). m.deeds.firsts ++ only_if s b) (flag_not (attached w) (attached_fits w)) ∙ ap (λ (xs : List ℕ). m.deeds.firsts ++ xs) (made_case (attached w == 1) (disposed w == 1) b))
     (ap (λ (s : Bool). m.deeds.late ++ only_if (s && (disposed w == 1)) b) (flag_not (attached w) (attached_fits w)) ∙ ap (λ (xs : List ℕ). m.deeds.late ++ xs) (late_case (attached w == 1) (disposed w == 1) b))
     (sym (append-nil m.deeds.counts)) (sym (append-nil (map act_of m.deeds.toggles)))
-    (order_attach b (attach_of w) k.entries.replies again (λ h e. not_first (attached w == 1) (disposed w == 1) e (eq-eqb (disposed w) 1 (sym (ap disposed f.3) ∙ gone_there p f.0.words f.0.views f.2.0 b m k.known f.1 f.2.1 lt (t.known_is.0, λ c l. t.known_is.1 c l ∙ ap told (sym (known_same c))) (t.tried b h))))))
+    (order_attach b (attach_of w) k.entries.replies again (λ h e. not_first (attached w == 1) (disposed w == 1) e (eq-eqb (disposed w) 1 (sym (ap disposed f.3) ∙ gone_there p f.0.words f.0.views f.2.0 b m k.known f.1 f.2.1 lt (t.known_is.0, λ c l. t.known_is.1 c l ∙ ap told (sym (known_same c))) (t.gone b h))))))
     (later ∙ (ap (λ y. known_set y w) (t.known_is.1 b lt ∙ ap told (sym (known_same b))) ∙ set_here p b w m))
     (λ c ne. same_known m next c (times_else c b m.found_disposed (disposed w == 1) ne) (times_else c b m.found_attached true ne) ∙ known_same c)
     (λ a gone. disposal_stays b k.entries.replies r

@@ -22,7 +22,7 @@ use Rattle.pd_core.proofs.Bits.{disposed_fits, attached_fits}
 use Rattle.pd_core.proofs.Attaches.{eqb_is}
 use Rattle.pd_core.proofs.Whole.{whole_total}
 use Rattle.pd_shared.specs.Book.{Book, known_at}
-use Rattle.pd_shared.specs.Tied.{attach_as, attach_of, known_set, made_by, first_by, is_alone, IsKnown, AreDeeds, KnowsAlone, KnowsTried}
+use Rattle.pd_shared.specs.Tied.{attach_as, attach_of, known_set, made_by, first_by, is_alone, IsKnown, AreDeeds, KnowsAlone, KnowsGone}
 use Rattle.pd_shared.proofs.ActLemmas.{not_flag, gone_there, attached_there, alone_disposed, or_first, or_second, alone_is, over_alone, dispose_says}
 use Rattle.pd_shared.proofs.NumberLemmas.{numbers_low, over_own}
 
@@ -150,7 +150,7 @@ module _ (p : Layout) (b w : ℕ) (m : View) (k : Book) (lt : b < bindings p) (k
       by_value knowns.Fresh e = ap (λ (s : Bool). if s then knowns.Disposed else knowns.Attached) open_yet
       by_value knowns.Attached e = ap (λ (s : Bool). if s then knowns.Disposed else knowns.Attached) open_yet
 
-  pub alone_first_then : KnowsTried k.known k.entries.replies → attach_of w ≡ attaches.Attached → (has_attach b k.entries.replies ≡ false) × (has_dispose b k.entries.replies ≡ false)
+  pub alone_first_then : KnowsGone k.known k.entries.replies → attach_of w ≡ attaches.Attached → (has_attach b k.entries.replies ≡ false) × (has_dispose b k.entries.replies ≡ false)
   alone_first_then tried e =
       let flags = attached_both (attached w == 1) (disposed w == 1) e in (
         first_reply (λ q. let bad : attaches.Attached ≡ attaches.Already = sym e ∙ q in cc),

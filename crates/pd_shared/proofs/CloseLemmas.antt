@@ -402,7 +402,7 @@ closed p last ws tallies counts end tied held are answers =
       known_gone = gone;
       known_attached = λ b lt e none. some_state (disposed (binding_word p ws b) == 1) (attached (binding_word p ws b)) (attached_there p ws end.0 end.2.0 b last.pass.view last.known.items end.1 end.2.1 lt tied.known_is e)
           (sym (state_of (binding_word p ws b) (slice_index last.counts.items b) (slice_index_or tallies b no_tally) (are.each b lt)) ∙ none);
-      own = record { gone = λ b lt e. gone b lt (tied.tried b e); read = read };
+      own = record { gone = λ b lt e. gone b lt (tied.gone b e); read = read };
       others = λ left learned k d lt_k. let of_seat = learned k d lt_k in record { gone = λ b lt e. gone b lt (of_seat.gone b e); read = λ s lt. omega (arith, of_seat.answers s, read s lt) };
       ends = λ whole. ends_fit p ws end.0 end.2.0 last.pass.view last.ended last.sessions.items last.ends end.1 end.2.1 (all whole) tied.reads;
       outcomes = λ whole left did b lt. let share = all whole in subst (IsOutcomeOfAll b (all_sights last.journal left) (all_replies last.journal left)) (sym (are.each b lt))

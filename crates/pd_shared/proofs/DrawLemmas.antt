@@ -24,9 +24,9 @@ use Rattle.pd_core.proofs.Waves.{known_fresh, known_attached, is_disposed, is_at
 use Rattle.pd_core.proofs.Facts.{known_drew_off, known_drew_on}
 use Rattle.pd_board.specs.Journal.{Entries}
 use Rattle.pd_shared.specs.Book.{Book, known_at}
-use Rattle.pd_shared.specs.Tied.{told, drawn_of, sight_of, before_of, is_alone, IsKnown, AreDeeds, AreReads, KnowsAlone, KnowsTried, IsTied}
+use Rattle.pd_shared.specs.Tied.{told, drawn_of, sight_of, before_of, is_alone, IsKnown, AreDeeds, AreReads, KnowsAlone, KnowsGone, IsTied}
 use Rattle.pd_shared.specs.Took.{Took, DrawSteps, drew, looked, both as both_steps, Ready, at_once, looked_live, drawn_as, drawn_by, known_drawn, known_looked}
-use Rattle.pd_shared.proofs.ActLemmas.{yes_or_no, not_flag, known_change, alone_change, alone_disposed, tried_same}
+use Rattle.pd_shared.proofs.ActLemmas.{yes_or_no, not_flag, known_change, alone_change, alone_disposed, gone_same}
 use Rattle.pd_shared.proofs.NumberLemmas.{numbers_low, limit_is, toggles_low}
 
 -- ---- the steps
@@ -92,7 +92,7 @@ tied_seen p v w k m b x s lt t more before deeds idle talk loads cleared same he
   all_loads = ap length loads ∙ t.all_loads;
   cleared = ap length cleared ∙ t.cleared;
   alone = subst (λ (y : Entries). KnowsAlone w (slice_set k.known b x) y.replies) (sym more) (alone_change v w k.known k.entries.replies k.entries.replies b x (omega (arith, t.known_is.0)) t.alone same (λ c h. h) new);
-  tried = subst (λ (y : Entries). KnowsTried (slice_set k.known b x) y.replies) (sym more) (tried_same k.known k.entries.replies b x (omega (arith, t.known_is.0)) t.tried stays);
+  gone = subst (λ (y : Entries). KnowsGone (slice_set k.known b x) y.replies) (sym more) (gone_same k.known k.entries.replies b x (omega (arith, t.known_is.0)) t.gone stays);
   loads = t.loads;
 }
 
@@ -206,7 +206,7 @@ tied_live p event b u v k lt t new on =
       all_loads = t.all_loads;
       cleared = t.cleared;
       alone = alone_change v next k.known k.entries.replies k.entries.replies b knowns.Attached (omega (arith, t.known_is.0)) t.alone refl (λ c h. h) (λ a q. absurd (cc));
-      tried = tried_same k.known k.entries.replies b knowns.Attached (omega (arith, t.known_is.0)) t.tried (not_gone_by p v k.known b fresh knowns.Attached lt t.known_is new (λ q. absurd (cc)));
+      gone = gone_same k.known k.entries.replies b knowns.Attached (omega (arith, t.known_is.0)) t.gone (not_gone_by p v k.known b fresh knowns.Attached lt t.known_is new (λ q. absurd (cc)));
       loads = t.loads;
     }
 

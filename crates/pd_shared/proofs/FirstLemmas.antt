@@ -61,7 +61,7 @@ tied_blank p t share draws granted ends on gone f known_is never =
       all_loads = sym f.all_loads;
       cleared = sym f.cleared;
       alone = λ a b e. absurd (never a b e);
-      tried = λ b h. absurd (let q : false ≡ true = sym (ap (λ (e : Entries). has_gone b e.replies) f.journal) ∙ h in cc);
+      gone = λ b h. absurd (let q : false ≡ true = sym (ap (λ (e : Entries). has_gone b e.replies) f.journal) ∙ h in cc);
       loads = (ap length f.loads ∙ long p.nodes 0, λ n. let none : slice_index t.loads.items n ≡ 0 = ap (λ xs. slice_index xs n) f.loads ∙ each_same p.nodes n 0 in omega arith);
     }
 

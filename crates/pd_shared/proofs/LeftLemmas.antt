@@ -24,7 +24,7 @@ use Rattle.pd_shared.specs.declared.sights.Sights.{Sights}
 use Rattle.pd_board.specs.Journal.{Entries}
 use Rattle.pd_shared.specs.Book.{Book, known_at, reads_at, unread}
 use Rattle.pd_shared.specs.First.{IsFirst}
-use Rattle.pd_shared.specs.Tied.{none_taken, is_alone, AreDeeds, AreReads, KnowsTried, IsTied, sight_of, before_of}
+use Rattle.pd_shared.specs.Tied.{none_taken, is_alone, AreDeeds, AreReads, KnowsGone, IsTied, sight_of, before_of}
 use Rattle.pd_shared.specs.Held.{IsHeld}
 use Rattle.pd_shared.specs.Merged.{later, with_last, IsMerged}
 use Rattle.pd_shared.specs.Sitting.{Sitting, standing_of, number_for}
@@ -60,7 +60,7 @@ tied_halved p v k may not_alone t = record {
   all_loads = t.all_loads;
   cleared = t.cleared;
   alone = λ a b gone. absurd (let q : false ≡ true = sym not_alone ∙ a in cc);
-  tried = t.tried;
+  gone = t.gone;
   loads = t.loads;
 }
 
@@ -220,14 +220,14 @@ module _ (old : Sitting) (t : Token) (new : Sitting) (took : TakesIn old t new) 
     ends = le_trans h.ends (subst (λ (n : ℕ). t.ends.last ≤ n) (sym last_ends) (le-max_right old.token.ends.last t.ends.last));
   }
 
-  pub has_learned : (s : Sights) → Leaves t s → KnowsTried t.known.items t.journal.replies → (left others : List Sights) → HasLearned old.token left → HasLearned t others → HasLearned new.token (left ++ s ∷ others)
+  pub has_learned : (s : Sights) → Leaves t s → KnowsGone t.known.items t.journal.replies → (left others : List Sights) → HasLearned old.token left → HasLearned t others → HasLearned new.token (left ++ s ∷ others)
   has_learned s leaves tried left others mine theirs = All-append (Learned new.token) left (s ∷ others)
       (λ k d lt. still_learned (slice_index_or left k d) (mine k d lt))
       (All-cons (Learned new.token) s others (also_learned s own) (λ k d lt. also_learned (slice_index_or others k d) (theirs k d lt)))
     where
       own : Learned t s
       own = record {
-        gone = subst (λ (e : Entries). KnowsTried t.known.items e.replies) (sym leaves.journal) tried;
+        gone = subst (λ (e : Entries). KnowsGone t.known.items e.replies) (sym leaves.journal) tried;
         answers = λ k. subst (λ (rs : List Reads). (reads_at rs k).last ≤ (reads_at t.sessions.items k).last) (sym leaves.sessions) (omega arith);
         ends = subst (λ (r : Reads). r.last ≤ t.ends.last) (sym leaves.ends) (omega arith);
       }

@@ -10,7 +10,7 @@ use Rattle.pd_shared.specs.declared.token.Token.{Token}
 use Rattle.pd_shared.specs.declared.sights.Sights.{Sights}
 use Rattle.pd_shared.specs.Sitting.{Sitting, standing_of}
 use Rattle.pd_shared.specs.Book.{known_at, reads_at}
-use Rattle.pd_shared.specs.Tied.{AreDeeds, KnowsTried}
+use Rattle.pd_shared.specs.Tied.{AreDeeds, KnowsGone}
 use Rattle.pd_shared.specs.Merged.{later}
 
 -- ---- a split
@@ -89,7 +89,7 @@ DidLeave _ _ = ⊥
 
 -- the token knows as disposed what the answers of the seat that left these sights say is disposed, and read no less than that seat
 pub record Learned (t : Token) (s : Sights) : Type 0 where
-  pub gone : KnowsTried t.known.items s.journal.replies
+  pub gone : KnowsGone t.known.items s.journal.replies
   pub answers : (k : ℕ) → (reads_at s.sessions.items k).last ≤ (reads_at t.sessions.items k).last
   pub ends : s.ends.last ≤ t.ends.last
 

@@ -191,8 +191,8 @@ abbrev pub KnowsAlone : View → List Known → List ActResult → Type 0
 KnowsAlone v known_list replies = is_alone v ≡ true → (b : ℕ) → known_at known_list b ≡ knowns.Disposed → has_disposal b replies ≡ true
 
 -- a binding of which an answer of this seat says that it is disposed is known as disposed
-abbrev pub KnowsTried : List Known → List ActResult → Type 0
-KnowsTried known_list replies = (b : ℕ) → has_gone b replies ≡ true → known_at known_list b ≡ knowns.Disposed
+abbrev pub KnowsGone : List Known → List ActResult → Type 0
+KnowsGone known_list replies = (b : ℕ) → has_gone b replies ≡ true → known_at known_list b ≡ knowns.Disposed
 
 -- what the token keeps in memory is what the view of its pass knows
 pub record IsTied (p : Layout) (v : View) (k : Book) : Type 0 where
@@ -204,5 +204,5 @@ pub record IsTied (p : Layout) (v : View) (k : Book) : Type 0 where
   pub cleared : length v.cleared ≡ k.cleared
   pub alone : KnowsAlone v k.known k.entries.replies
   -- what its answers say is disposed it knows as disposed
-  pub tried : KnowsTried k.known k.entries.replies
+  pub gone : KnowsGone k.known k.entries.replies
   pub loads : (length k.loads ≡ p.nodes) × ((n : ℕ) → slice_index k.loads n ≤ k.all_loads)

@@ -20,4 +20,4 @@ returns-clause-over c = subst (λ (h : Hub). IsOver h.layout c.take_in.result) c
 pub returns-clause-learned : goal.returns-clause-learned
 returns-clause-learned c left others before behind =
     let behind_is = subst (λ (s : Sitting). HasLearned s.token others) (sym c.self.view_is) behind in
-    has_learned _ c.self.inside.token _ c.take_in.ensures.takes c.take_in.result c.take_in.ensures.leaves c.self.invariant.1.tried left others before behind_is
+    has_learned _ c.self.inside.token _ c.take_in.ensures.takes c.take_in.result c.take_in.ensures.leaves c.self.invariant.1.gone left others before behind_is

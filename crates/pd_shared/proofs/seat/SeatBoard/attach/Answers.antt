@@ -105,7 +105,7 @@ returns-clause-alone_first c a =
     let same : is_alone c.mark_row.new.pass.view ≡ is_alone c.self.inside.token.pass.view = ap (λ (y : View). is_alone y) rest in
     let a' = subst (λ (s : Sitting). is_alone s.token.pass.view ≡ true) (sym c.self.view_is) a in
     rw (← c.self.view_is) (
-      (λ e. alone_first_then c.self.inside.board.now.core.layout c.args.b c.set_attached-word.result c.mark_row.new.pass.view (book_of c.self.inside.token) lt known_m deeds_m c.set_attached-word.ensures.found tied.tried (sym c.attach_answer-answer.ensures ∙ e)),
+      (λ e. alone_first_then c.self.inside.board.now.core.layout c.args.b c.set_attached-word.result c.mark_row.new.pass.view (book_of c.self.inside.token) lt known_m deeds_m c.set_attached-word.ensures.found tied.gone (sym c.attach_answer-answer.ensures ∙ e)),
       (λ h. c.attach_answer-answer.ensures ∙ alone_first_when c.self.inside.board.now.core.layout c.args.b c.set_attached-word.result c.mark_row.new.pass.view (book_of c.self.inside.token) lt known_m deeds_m c.set_attached-word.ensures.found (same ∙ a') h.0 h.1),
     )
 
