@@ -26,12 +26,13 @@ use Rattle.pd_core.specs.Layout.{Layout, bindings, binding_word}
 use Rattle.pd_core.specs.Words.{attached, disposed, sum_in}
 use Rattle.pd_core.specs.Counts.{total, first_is, only_if}
 use Rattle.pd_core.specs.Views.{Known as Found_as, fresh, found_attached, found_disposed, known, over, of_all, disposals, no_deeds, spent_view}
-use Rattle.pd_core.specs.Good.{Good}
+use Rattle.pd_core.specs.Good.{Good, Ordered}
 use Rattle.pd_core.specs.Kinds.{Found, after, set_attached, set_disposed}
 use Rattle.pd_core.proofs.Sums.{total-none, over_none, first_is-else, times_else, times_grows}
 use Rattle.pd_core.proofs.Bits.{disposed_fits, attached_fits}
 use Rattle.pd_core.proofs.Attaches.{both, eqb_is}
 use Rattle.pd_core.proofs.Waves.{known_disposed, known_attached, is_disposed, same_known}
+use Rattle.pd_core.proofs.Parts.{ordered_same}
 use Rattle.pd_core.proofs.Whole.{whole_total}
 use Rattle.pd_core.proofs.Facts.{known_disposed_of, known_set_gone, known_set as attached_known}
 use Rattle.pd_board.specs.Journal.{Entries}
@@ -269,8 +270,8 @@ abbrev pub with_reply : Entries → ActResult → Entries
 with_reply e r = record e { replies = e.replies ++ r ∷ []; spare = e.spare - 1 }
 
 pub deeds_act : (d n : Deeds) (e m : Entries) (r : ActResult) → AreDeeds d e → m ≡ with_reply e r → n.sights ≡ d.sights → n.made ≡ d.made ++ filter_map made_by (r ∷ []) → n.firsts ≡ d.firsts ++ filter_map first_by (r ∷ []) → n.late ≡ d.late ++ filter_map late_by (r ∷ [])
-    → n.counts ≡ d.counts ++ filter_map count_by (r ∷ []) → map act_of n.toggles ≡ map act_of d.toggles ++ filter_map toggle_by (r ∷ []) → ((c : ℕ) → IsInOrder c e.replies r) → AreDeeds n m
-deeds_act d n e m r k is sights made firsts late counts turned next = subst (λ (y : Entries). AreDeeds n y) (sym is) (record {
+    → n.counts ≡ d.counts ++ filter_map count_by (r ∷ []) → map act_of n.toggles ≡ map act_of d.toggles ++ filter_map toggle_by (r ∷ []) → ((c : ℕ) → IsInOrder c e.replies r) → (steps : ℕ) × Ordered n steps → AreDeeds n m
+deeds_act d n e m r k is sights made firsts late counts turned next timed = subst (λ (y : Entries). AreDeeds n y) (sym is) (record {
   sights = k.sights ∙ ap (map sight_of) (sym sights);
   befores = k.befores ∙ ap (map before_of) (sym sights);
   made = made ∙ more made_by d.made k.made;
@@ -279,6 +280,7 @@ deeds_act d n e m r k is sights made firsts late counts turned next = subst (λ 
   counts = counts ∙ more count_by d.counts k.counts;
   toggles = turned ∙ more toggle_by (map act_of d.toggles) k.toggles;
   order = λ c. after_more (IsInOrder c) e.replies r (k.order c) (next c);
+  timed = timed;
 })
   where
     more : {A : Type 0} (f : ActResult → Option A) (xs : List A) → xs ≡ filter_map f e.replies → xs ++ filter_map f (r ∷ []) ≡ filter_map f (e.replies ++ r ∷ [])
@@ -318,7 +320,8 @@ tied_disposed p b w v k m lt t f is =
     (deeds_act v.deeds next.deeds k.entries m r t.deeds is refl (sym (append-nil v.deeds.made)) (sym (append-nil v.deeds.firsts)) (sym (append-nil v.deeds.late))
     (ap (λ (s : Bool). v.deeds.counts ++ only_if s (b, sum_in w)) (flag_not (disposed w) (disposed_fits w)) ∙ ap (λ (xs : List (ℕ × ℕ)). v.deeds.counts ++ xs) (count_case (disposed w == 1) b (sum_in w)))
     (sym (append-nil (map act_of v.deeds.toggles)))
-    (order_dispose b (dispose_of w) k.entries.replies (λ h. ap (λ (s : Bool). if s then disposes.Already else disposes.Disposed (sum_in w)) (eq-eqb (disposed w) 1 (sym (ap disposed f.3) ∙ gone_there p f.0.words f.0.views f.2.0 b v k.known f.1 f.2.1 lt t.known_is (t.gone b h))))))
+    (order_dispose b (dispose_of w) k.entries.replies (λ h. ap (λ (s : Bool). if s then disposes.Already else disposes.Disposed (sum_in w)) (eq-eqb (disposed w) 1 (sym (ap disposed f.3) ∙ gone_there p f.0.words f.0.views f.2.0 b v k.known f.1 f.2.1 lt t.known_is (t.gone b h)))))
+    (t.deeds.timed.0, ordered_same v.deeds next.deeds t.deeds.timed.0 refl refl t.deeds.timed.1))
     (ap told (sym (known_disposed_of p b w v)))
     (λ c ne. same_known v next c (times_else c b v.found_disposed true ne) refl)
     (λ a _. ⊎_elim
@@ -385,7 +388,8 @@ tied_attached p b w v m k es x lt t rest f later is again =
     (ap (λ (s : Bool). m.deeds.firsts ++ only_if s b) (flag_not (attached w) (attached_fits w)) ∙ ap (λ (xs : List ℕ). m.deeds.firsts ++ xs) (made_case (attached w == 1) (disposed w == 1) b))
     (ap (λ (s : Bool). m.deeds.late ++ only_if (s && (disposed w == 1)) b) (flag_not (attached w) (attached_fits w)) ∙ ap (λ (xs : List ℕ). m.deeds.late ++ xs) (late_case (attached w == 1) (disposed w == 1) b))
     (sym (append-nil m.deeds.counts)) (sym (append-nil (map act_of m.deeds.toggles)))
-    (order_attach b (attach_of w) k.entries.replies again (λ h e. not_first (attached w == 1) (disposed w == 1) e (eq-eqb (disposed w) 1 (sym (ap disposed f.3) ∙ gone_there p f.0.words f.0.views f.2.0 b m k.known f.1 f.2.1 lt (t.known_is.0, λ c l. t.known_is.1 c l ∙ ap told (sym (known_same c))) (t.gone b h))))))
+    (order_attach b (attach_of w) k.entries.replies again (λ h e. not_first (attached w == 1) (disposed w == 1) e (eq-eqb (disposed w) 1 (sym (ap disposed f.3) ∙ gone_there p f.0.words f.0.views f.2.0 b m k.known f.1 f.2.1 lt (t.known_is.0, λ c l. t.known_is.1 c l ∙ ap told (sym (known_same c))) (t.gone b h)))))
+    (was.timed.0, ordered_same m.deeds next.deeds was.timed.0 refl refl was.timed.1))
     (later ∙ (ap (λ y. known_set y w) (t.known_is.1 b lt ∙ ap told (sym (known_same b))) ∙ set_here p b w m))
     (λ c ne. same_known m next c (times_else c b m.found_disposed (disposed w == 1) ne) (times_else c b m.found_attached true ne) ∙ known_same c)
     (λ a gone. disposal_stays b k.entries.replies r

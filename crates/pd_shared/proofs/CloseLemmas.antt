@@ -3,6 +3,7 @@ use Rattle.std.proofs.Common.{◌≡◌, ◌≢◌, ◌⊎◌, ℕ, zero, suc, �
 use Rattle.std.specs.Prelude.{nat_lt, slice_index, slice_index_or, count_by as how_many}
 use Rattle.std.specs.List.{All, filter_map, list_any}
 use Rattle.std.specs.Option.{ForSome}
+use Rattle.std.proofs.lemmas.List.Elements.{All-cons, All-nil}
 use Rattle.std.proofs.lemmas.Bool.Decides.{nat_tests}
 use mathlib.Core.Option.{some}
 use lib.ListN.{get_elem?}
@@ -26,7 +27,7 @@ use Rattle.pd_core.specs.Words.{attached, disposed, off, sum_in}
 use Rattle.pd_core.specs.Counts.{total, same, pair_is, once_below, one_if}
 use Rattle.pd_core.specs.Talks.{numbers, ends_of, silent}
 use Rattle.pd_core.specs.Views.{over, of_all, no_deeds, talk_of, drew_number, missed, misses, toggles_upto, toggles_from, toggles_at, makings, firsts, lates, disposals, count_kept}
-use Rattle.pd_core.specs.Good.{Good, Answered}
+use Rattle.pd_core.specs.Good.{Good, Answered, Ordered}
 use Rattle.pd_core.specs.Runs.{IsLast}
 use Rattle.pd_core.proofs.Sums.{total-at, total-append, same_here, same_else}
 use Rattle.pd_core.proofs.Bits.{disposed_fits, attached_fits}
@@ -361,6 +362,14 @@ ends_fit p ws views id v ended sessions ends g at share r =
     (λ (some_read : 0 < ends.last). let low = (g.spoken.heard id v.talk (at_map talk_of views id v at)).end_reads ends.last (r.last_end some_read) in omega arith)
     (either_zero ends.last)
 
+-- ---- each seat's toggles among its draws
+
+all_timed : (left : List Sights) (ds : List Deeds) → DidLeave left ds → All (λ d. (steps : ℕ) × Ordered d steps) ds
+all_timed [] [] k = All-nil (λ d. (steps : ℕ) × Ordered d steps)
+all_timed [] (d ∷ ds) k = absurd k
+all_timed (s ∷ more) [] k = absurd k
+all_timed (s ∷ more) (d ∷ ds) k = All-cons (λ d. (steps : ℕ) × Ordered d steps) d ds k.0.timed (all_timed more ds k.1)
+
 -- ---- the tally
 
 state_of : (w n : ℕ) (t : BindingTally) → t ≡ tally_by w n → t.state ≡ state_by (disposed w == 1) (attached w == 1)
@@ -408,6 +417,7 @@ closed p last ws tallies counts end tied held are answers =
       outcomes = λ whole left did b lt. let share = all whole in subst (IsOutcomeOfAll b (all_sights last.journal left) (all_replies last.journal left)) (sym (are.each b lt))
           (outcome_of_all p ws end.0 end.2.0 last.pass.view end.1 end.2.1 share last.journal left tied.deeds did b lt last.seats last.counts.items held);
       others_ends = λ whole left learned k d lt_k. let low = ends_fit p ws end.0 end.2.0 last.pass.view last.ended last.sessions.items last.ends end.1 end.2.1 (all whole) tied.reads in omega (arith, (learned k d lt_k).ends, low);
+      timed = λ left did. All-cons (λ d. (steps : ℕ) × Ordered d steps) last.pass.view.deeds last.pass.view.taken tied.deeds.timed (all_timed left last.pass.view.taken did);
       order = λ left did b. (tied.deeds.order b, each_left (λ d. Unit {0}) (EachAfter (IsInOrder b)) (λ d e a u. a.order b) left last.pass.view.taken did (λ k d e. tt));
       causes = λ whole left did b lt. causes_of_all p ws end.0 end.2.0 last.pass.view end.1 end.2.1 (all whole) last.journal left tied.deeds did b lt;
       numbers = λ whole s lt. let share = all whole in subst (λ (n : ℕ). OnceBelow n (filter_map (number_for s) (last.pass.view.talk.numbers ++ last.pass.view.talk.handed))) (sym (answers.each s lt)) (answers_once p ws end.0 end.2.0 last.pass.view end.1 end.2.1 share s lt);

@@ -7,6 +7,7 @@ use Rattle.pd_core.specs.Layout.{Layout, bindings}
 use Rattle.pd_core.specs.Counts.{total, first_is}
 use Rattle.pd_core.specs.Talks.{silent, spent}
 use Rattle.pd_core.specs.Views.{fresh, known, known_in, known_of, first_view, spent_view, newcomer, no_deeds}
+use Rattle.pd_core.proofs.Parts.{ordered_none}
 use Rattle.pd_core.proofs.Sums.{total-none, times-none}
 use Rattle.pd_board.specs.Journal.{Entries}
 use Rattle.pd_shared.specs.declared.token.Reads.{Reads}
@@ -48,7 +49,7 @@ tied_blank p t share draws granted ends on gone f known_is never =
     record {
       idle = refl;
       known_is = known_is;
-      deeds = subst (λ (e : Entries). AreDeeds no_deeds e) (sym f.journal) (record { sights = refl; befores = refl; made = refl; firsts = refl; late = refl; counts = refl; toggles = refl; order = λ b j y lt. absurd (omega arith) });
+      deeds = subst (λ (e : Entries). AreDeeds no_deeds e) (sym f.journal) (record { sights = refl; befores = refl; made = refl; firsts = refl; late = refl; counts = refl; toggles = refl; order = λ b j y lt. absurd (omega arith); timed = (0, ordered_none 0) });
       reads = record {
         ended_is = sym f.ended;
         sessions_are = ap length f.sessions ∙ long p.sessions unread;

@@ -6,6 +6,7 @@ pub mod GoneLemmas
 pub mod LoadLemmas
 pub mod MarkLemmas
 pub mod NumberLemmas
+pub mod OrderLemmas
 pub mod SwitchLemmas
 pub mod TalkLemmas
 pub mod HeldLemmas

@@ -23,6 +23,7 @@ use Rattle.pd_board.specs.Journal.{Entries}
 use Rattle.pd_shared.specs.Book.{Book, known_at}
 use Rattle.pd_shared.specs.Tied.{told, act_of, toggle_of, toggle_as, known_switched, IsKnown, AreDeeds, IsTied}
 use Rattle.pd_shared.proofs.ActLemmas.{yes_or_no, not_flag, with_reply, deeds_act, tied_act, gone_there, alone_disposed, disposal_stays, toggle_apart, toggle_says, order_toggle}
+use Rattle.pd_shared.proofs.OrderLemmas.{switched_timed}
 use Rattle.pd_shared.proofs.NumberLemmas.{numbers_low, limit_is, turned_is}
 
 by_test : (s : Bool) (k : Known) → (k ≡ knowns.Disposed → s ≡ true) → (if s then knowns.Disposed else k) ≡ knowns.Disposed → s ≡ true
@@ -60,7 +61,8 @@ tied_off p b w v k m x lt t f later is =
     tied_act p v next k m b x r lt t is t.idle refl refl refl refl
     (deeds_act v.deeds next.deeds k.entries m r t.deeds is refl (sym (append-nil v.deeds.made)) (sym (append-nil v.deeds.firsts)) (sym (append-nil v.deeds.late)) (sym (append-nil v.deeds.counts))
     (map-append act_of v.deeds.toggles _)
-    (order_toggle true b (toggle_of true w) k.entries.replies (λ h. toggle_gone true w (sym (ap disposed f.3) ∙ gone_there p f.0.words f.0.views f.2.0 b v k.known f.1 f.2.1 lt t.known_is (t.gone b h)))))
+    (order_toggle true b (toggle_of true w) k.entries.replies (λ h. toggle_gone true w (sym (ap disposed f.3) ∙ gone_there p f.0.words f.0.views f.2.0 b v k.known f.1 f.2.1 lt t.known_is (t.gone b h))))
+    (switched_timed p b w v f.0.words f.0.views f.2.0 f.1 f.2.1 lt f.3 true))
     (later ∙ switched_here w (known_at k.known b) (told (known next b)) (λ e. ap told (known_off_gone p b w v e)) (λ e. no_more v next b (disposed w == 1) e refl refl ∙ sym (t.known_is.1 b lt)))
     (λ c ne. same_known v next c (times_else c b v.found_disposed (disposed w == 1) ne) refl)
     (λ a gone. disposal_stays b k.entries.replies r (alone_disposed p f.0.words f.0.views f.2.0 b v k.entries f.1 f.2.1 t.deeds a lt
@@ -76,7 +78,8 @@ tied_on p b w v k m x lt t f later is =
     tied_act p v next k m b x r lt t is t.idle refl refl refl refl
     (deeds_act v.deeds next.deeds k.entries m r t.deeds is refl (sym (append-nil v.deeds.made)) (sym (append-nil v.deeds.firsts)) (sym (append-nil v.deeds.late)) (sym (append-nil v.deeds.counts))
     (map-append act_of v.deeds.toggles _)
-    (order_toggle false b (toggle_of false w) k.entries.replies (λ h. toggle_gone false w (sym (ap disposed f.3) ∙ gone_there p f.0.words f.0.views f.2.0 b v k.known f.1 f.2.1 lt t.known_is (t.gone b h)))))
+    (order_toggle false b (toggle_of false w) k.entries.replies (λ h. toggle_gone false w (sym (ap disposed f.3) ∙ gone_there p f.0.words f.0.views f.2.0 b v k.known f.1 f.2.1 lt t.known_is (t.gone b h))))
+    (switched_timed p b w v f.0.words f.0.views f.2.0 f.1 f.2.1 lt f.3 false))
     (later ∙ switched_here w (known_at k.known b) (told (known next b)) (λ e. ap told (known_on_gone p b w v e)) (λ e. no_more v next b (disposed w == 1) e refl refl ∙ sym (t.known_is.1 b lt)))
     (λ c ne. same_known v next c (times_else c b v.found_disposed (disposed w == 1) ne) refl)
     (λ a gone. disposal_stays b k.entries.replies r (alone_disposed p f.0.words f.0.views f.2.0 b v k.entries f.1 f.2.1 t.deeds a lt

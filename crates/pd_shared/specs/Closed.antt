@@ -18,6 +18,7 @@ use Rattle.pd_board.specs.Tally.{state_by, no_tally}
 use Rattle.pd_core.specs.Layout.{Layout, bindings, binding_word, session_word}
 use Rattle.pd_core.specs.Words.{attached, disposed, sum_in}
 use Rattle.pd_core.specs.Talks.{ends_of}
+use Rattle.pd_core.specs.Good.{Ordered}
 use Rattle.pd_core.specs.Runs.{IsLast}
 use Rattle.pd_shared.specs.declared.token.Reads.{Reads}
 use Rattle.pd_shared.specs.declared.token.Token.{Token}
@@ -152,6 +153,8 @@ pub record IsClosed (p : Layout) (last : Token) (tallies : List BindingTally) (c
   pub others_ends : IsWhole last → (left : List Sights) → HasLearned last left → All (λ s. s.ends.last ≤ ends_of last.pass.view.talk) left
   pub outcomes : IsWhole last → (left : List Sights) → DidLeave left last.pass.view.taken → (b : ℕ) → b < bindings p
       → IsOutcomeOfAll b (all_sights last.journal left) (all_replies last.journal left) (slice_index_or tallies b no_tally)
+  -- each toggle of each seat counted more than the numbers that the seat drew before it, and at most those that it drew after
+  pub timed : (left : List Sights) → DidLeave left last.pass.view.taken → All (λ d. (steps : ℕ) × Ordered d steps) (last.pass.view.deeds ∷ last.pass.view.taken)
   -- the answers of each seat are in order, and each toggle that found nothing to change has its cause
   pub order : (left : List Sights) → DidLeave left last.pass.view.taken → (b : ℕ) → OfEachSeat (EachAfter (IsInOrder b)) last.journal left
   pub causes : IsWhole last → (left : List Sights) → DidLeave left last.pass.view.taken → (b : ℕ) → b < bindings p

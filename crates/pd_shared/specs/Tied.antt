@@ -29,6 +29,7 @@ use Rattle.pd_core.specs.Layout.{Layout, bindings}
 use Rattle.pd_core.specs.Words.{attached, disposed, off, sum_in}
 use Rattle.pd_core.specs.Counts.{total, first_is}
 use Rattle.pd_core.specs.Talks.{spent, readings, end_readings}
+use Rattle.pd_core.specs.Good.{Ordered}
 use Rattle.pd_core.specs.Views.{Known as Found, fresh, found_attached, found_disposed, known}
 use Rattle.pd_board.specs.Journal.{Entries}
 use Rattle.pd_shared.specs.declared.token.Reads.{Reads}
@@ -174,6 +175,8 @@ pub record AreDeeds (d : Deeds) (e : Entries) : Type 0 where
   pub counts : d.counts ≡ filter_map count_by e.replies
   pub toggles : map act_of d.toggles ≡ filter_map toggle_by e.replies
   pub order : (b : ℕ) → EachAfter (IsInOrder b) e.replies
+  -- each toggle counted more than the numbers that the pass drew before it, and at most those that it drew after
+  pub timed : (steps : ℕ) × Ordered d steps
 
 -- the reads of the words of sessions and of ended contexts
 pub record AreReads (p : Layout) (t : Talk) (ended : Bool) (sessions : List Reads) (ends : Reads) : Type 0 where
