@@ -216,7 +216,7 @@ module _ (b : ℕ) where
 
 -- ---- the toggles of one seat
 
-weight_none : (s m : ℕ) → s * (0 * m) ≡ 0
+pub weight_none : (s m : ℕ) → s * (0 * m) ≡ 0
 weight_none s m = omega arith
 
 zero_test : (n : ℕ) → n < 2 → (n == 0) ≡ not (n == 1)
@@ -225,7 +225,7 @@ zero_test (suc zero) h = refl
 zero_test (suc (suc n)) h = absurd (omega arith)
 
 -- the weight of a toggle, by what the word that it found says
-upto_by : (b c n x : ℕ) (t : Bool) → same b c * (one_if t * once_below n (suc x)) ≡ one_if (t && ((c == b) && nat_le n x))
+pub upto_by : (b c n x : ℕ) (t : Bool) → same b c * (one_if t * once_below n (suc x)) ≡ one_if (t && ((c == b) && nat_le n x))
 unfolding once_below
 upto_by b c n x true = by_eq c b
     (λ (e : c ≡ b). (λ i. same_here b c (sym e) i * (1 * cond (nat_lt n (suc x)) 1 0)) ∙ (test_same n x ∙ sym (ap (λ (s : Bool). one_if (s && nat_le n x)) (eq-eqb c b e))))
@@ -247,14 +247,14 @@ module _ (b x : ℕ) where
   enabled_by false false c n = refl
 
   -- the word changed, as the answer says
-  turned_off : (w : ℕ) → turns true w ≡ (not (disposed w == 1) && not (beq (off w == 1) true))
+  pub turned_off : (w : ℕ) → turns true w ≡ (not (disposed w == 1) && not (beq (off w == 1) true))
   turned_off w = λ i. zero_test (disposed w) (disposed_fits w) i && (zero_test (off w) (off_fits w) ∙ not_same (off w == 1)) i
     where
       not_same : (s : Bool) → not s ≡ not (beq s true)
       not_same true = refl
       not_same false = refl
 
-  turned_on : (w : ℕ) → turns false w ≡ (not (disposed w == 1) && not (beq (off w == 1) false))
+  pub turned_on : (w : ℕ) → turns false w ≡ (not (disposed w == 1) && not (beq (off w == 1) false))
   turned_on w = λ i. zero_test (disposed w) (disposed_fits w) i && is_same (off w == 1) i
     where
       is_same : (s : Bool) → s ≡ not (beq s false)
@@ -277,7 +277,7 @@ module _ (b x : ℕ) where
       by_kind false c w = upto_by b c (sum_in w) x (turns false w) ∙ (ap (λ (s : Bool). one_if (s && ((c == b) && nat_le (sum_in w) x))) (turned_on w) ∙ sym (ap one_if (enabled_by (disposed w == 1) (beq (off w == 1) false) c (sum_in w))))
       by_kind true c w = weight_none (same b c) (once_below (sum_in w) (suc x))
 
-  only_toggles : (h : ActResult → Bool) → ((c : ℕ) (a : _) → h (acts.Attached c a) ≡ false) → ((c : ℕ) (a : _) → h (acts.Disposed c a) ≡ false) → (r : ActResult) → some_weight (λ y. one_if (h y)) (toggle_by r) ≡ one_if (h r)
+  pub only_toggles : (h : ActResult → Bool) → ((c : ℕ) (a : _) → h (acts.Attached c a) ≡ false) → ((c : ℕ) (a : _) → h (acts.Disposed c a) ≡ false) → (r : ActResult) → some_weight (λ y. one_if (h y)) (toggle_by r) ≡ one_if (h r)
   only_toggles h made gone (acts.Attached c a) = sym (ap one_if (made c a))
   only_toggles h made gone (acts.Disposed c a) = sym (ap one_if (gone c a))
   only_toggles h made gone (acts.Enabled c a) = refl

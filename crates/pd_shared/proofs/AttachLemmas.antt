@@ -22,8 +22,8 @@ use Rattle.pd_core.proofs.Bits.{disposed_fits, attached_fits}
 use Rattle.pd_core.proofs.Attaches.{eqb_is}
 use Rattle.pd_core.proofs.Whole.{whole_total}
 use Rattle.pd_shared.specs.Book.{Book, known_at}
-use Rattle.pd_shared.specs.Tied.{attach_as, attach_of, known_set, made_by, first_by, is_alone, IsKnown, AreDeeds, KnowsAlone, KnowsTried}
-use Rattle.pd_shared.proofs.ActLemmas.{not_flag, gone_there, attached_there, alone_disposed, or_first, or_second, alone_is, over_alone}
+use Rattle.pd_shared.specs.Tied.{attach_as, attach_of, known_set, made_by, first_by, is_alone, IsKnown, AreDeeds, KnowsAlone, KnowsGone}
+use Rattle.pd_shared.proofs.ActLemmas.{not_flag, gone_there, attached_there, alone_disposed, or_first, or_second, alone_is, over_alone, dispose_says}
 use Rattle.pd_shared.proofs.NumberLemmas.{numbers_low, over_own}
 
 pub idle_start : (b : ℕ) (a : Option Attaching) → a ≡ None → (past_in a b ≡ 0) × (half_in a b ≡ false)
@@ -122,6 +122,12 @@ module _ (p : Layout) (b w : ℕ) (m : View) (k : Book) (lt : b < bindings p) (k
       let on = (f.1.each f.2.0 m f.2.1).done.made_is b lt (omega (arith, there, makings_are b m.deeds, over_own (makings b) m.deeds m.taken)) in
       omega (arith, here, on, not_made h))
 
+  pub again : has_attach b k.entries.replies ≡ true → attach_of w ≡ attaches.Already
+  again e =
+      let there = subst (λ (xs : List ℕ). 0 < times b xs) (sym deeds_m.made) (attach_there b k.entries.replies e) in
+      let on = (f.1.each f.2.0 m f.2.1).done.made_is b lt (omega (arith, there, makings_are b m.deeds, over_own (makings b) m.deeds m.taken)) in
+      ap (λ (s : Bool). attach_as s (disposed w == 1)) (eq-eqb (attached w) 1 (sym here ∙ on))
+
   alone_made : is_alone m ≡ true → 0 < attached w → has_attach b k.entries.replies ≡ true
   alone_made a on =
       let whole = alone_is m a in
@@ -144,12 +150,12 @@ module _ (p : Layout) (b w : ℕ) (m : View) (k : Book) (lt : b < bindings p) (k
       by_value knowns.Fresh e = ap (λ (s : Bool). if s then knowns.Disposed else knowns.Attached) open_yet
       by_value knowns.Attached e = ap (λ (s : Bool). if s then knowns.Disposed else knowns.Attached) open_yet
 
-  pub alone_first_then : KnowsTried k.known k.entries.replies → attach_of w ≡ attaches.Attached → (has_attach b k.entries.replies ≡ false) × (has_dispose b k.entries.replies ≡ false)
+  pub alone_first_then : KnowsGone k.known k.entries.replies → attach_of w ≡ attaches.Attached → (has_attach b k.entries.replies ≡ false) × (has_dispose b k.entries.replies ≡ false)
   alone_first_then tried e =
       let flags = attached_both (attached w == 1) (disposed w == 1) e in (
         first_reply (λ q. let bad : attaches.Attached ≡ attaches.Already = sym e ∙ q in cc),
         false_left (has_dispose b k.entries.replies)
-            (λ q. let gone = gone_there p f.0.words f.0.views f.2.0 b m k.known f.1 f.2.1 lt known_m (tried b q) in omega (arith, gone_here, gone, not_flag (disposed w) (disposed_fits w) flags.1)),
+            (λ q. let gone = gone_there p f.0.words f.0.views f.2.0 b m k.known f.1 f.2.1 lt known_m (tried b (dispose_says b k.entries.replies q)) in omega (arith, gone_here, gone, not_flag (disposed w) (disposed_fits w) flags.1)),
       )
 
   pub alone_first_when : is_alone m ≡ true → has_attach b k.entries.replies ≡ false → has_dispose b k.entries.replies ≡ false → attach_of w ≡ attaches.Attached

@@ -3,6 +3,7 @@ use Rattle.std.proofs.Common.{◌≡◌, ◌≢◌, ◌⊎◌, ℕ, zero, suc, �
 use Rattle.std.specs.Prelude.{nat_lt, slice_index, slice_index_or, count_by as how_many}
 use Rattle.std.specs.List.{All, filter_map, list_any}
 use Rattle.std.specs.Option.{ForSome}
+use Rattle.std.proofs.lemmas.List.Elements.{All-cons, All-nil}
 use Rattle.std.proofs.lemmas.Bool.Decides.{nat_tests}
 use mathlib.Core.Option.{some}
 use lib.ListN.{get_elem?}
@@ -10,42 +11,46 @@ use Rattle.pd_board.proofs.ChainLemmas.{by_eq}
 use Rattle.pd_board.specs.declared.answers.ActResult.{ActResult}
 use Rattle.pd_board.specs.declared.answers.ActResult.TheVariants as acts
 use Rattle.pd_board.specs.declared.answers.Attach.TheVariants as attaches
+use Rattle.pd_board.specs.declared.answers.Known.TheVariants as knowns
 use Rattle.pd_board.specs.declared.answers.Sight.{Sight}
 use Rattle.pd_board.specs.declared.answers.State.TheVariants as states
 use Rattle.pd_board.specs.declared.answers.BindingTally.{BindingTally}
 use Rattle.pd_board.specs.Answers.{has_attach, has_attachment, has_disposal, is_attach, is_attachment, is_disposal, disposal, toggle_count, TogglesUpTo}
-use Rattle.pd_board.specs.Kept.{numbers_of, disables_upto, enables_upto, IsMissed, FitsToggles}
+use Rattle.pd_board.specs.Kept.{numbers_of, disables_upto, enables_upto, IsMissed, FitsToggles, EachAfter}
 use Rattle.pd_board.specs.Tally.{state_by, no_tally}
 use Rattle.pd_core.specs.declared.view.View.{View}
 use Rattle.pd_core.specs.declared.view.Deeds.{Deeds}
 use Rattle.pd_core.specs.declared.view.Talk.{Talk}
-use Rattle.pd_core.specs.Layout.{Layout, bindings, binding_word, session_word, front, width}
+use Rattle.pd_core.specs.Layout.{Layout, bindings, binding_word, session_word, end_word, front, width}
 use Rattle.pd_core.proofs.Places.{front_is}
 use Rattle.pd_core.specs.Words.{attached, disposed, off, sum_in}
 use Rattle.pd_core.specs.Counts.{total, same, pair_is, once_below, one_if}
-use Rattle.pd_core.specs.Talks.{numbers, silent}
-use Rattle.pd_core.specs.Views.{over, of_all, no_deeds, talk_of, drew_number, missed, misses, toggles_upto, toggles_at, makings, firsts, lates, disposals, count_kept}
-use Rattle.pd_core.specs.Good.{Good}
+use Rattle.pd_core.specs.Talks.{numbers, ends_of, silent}
+use Rattle.pd_core.specs.Views.{over, of_all, no_deeds, talk_of, drew_number, missed, misses, toggles_upto, toggles_from, toggles_at, makings, firsts, lates, disposals, count_kept}
+use Rattle.pd_core.specs.Good.{Good, Answered, Ordered}
 use Rattle.pd_core.specs.Runs.{IsLast}
 use Rattle.pd_core.proofs.Sums.{total-at, total-append, same_here, same_else}
 use Rattle.pd_core.proofs.Bits.{disposed_fits, attached_fits}
 use Rattle.pd_core.proofs.Draws.{zero_or_one}
-use Rattle.pd_core.proofs.Seats.{drawn_none, firsts_none, disposals_none, misses_none, upto_none}
+use Rattle.pd_core.proofs.Seats.{drawn_none, firsts_none, disposals_none, misses_none, upto_none, from_none}
 use Rattle.pd_core.proofs.Whole.{whole_total}
+use Rattle.atomic_table.proofs.Lists.{at_map}
+use Rattle.pd_shared.specs.declared.token.Reads.{Reads}
 use Rattle.pd_shared.specs.declared.token.Token.{Token}
 use Rattle.pd_shared.specs.declared.sights.Sights.{Sights}
 use Rattle.pd_board.specs.Journal.{Entries}
-use Rattle.pd_shared.specs.Book.{book_of}
-use Rattle.pd_shared.specs.Tied.{AreDeeds, IsKnown, IsTied}
+use Rattle.pd_shared.specs.Book.{book_of, known_at, reads_at}
+use Rattle.pd_shared.specs.Tied.{IsInOrder, AreDeeds, AreReads, IsTied}
 use Rattle.pd_shared.specs.Held.{IsHeld}
 use Rattle.pd_shared.specs.Left.{DidLeave}
 use Rattle.pd_shared.specs.Sitting.{number_for}
-use Rattle.pd_shared.specs.Closed.{tally_by, AreTallies, AreNumbers, OnceBelow, is_first, IsOutcomeOfAll, all_sights, all_replies, IsClosed, CountsOnce, AnswersOnce}
+use Rattle.pd_shared.specs.Closed.{tally_by, AreTallies, AreNumbers, OnceBelow, is_first, disables_from, enables_from, HasCause, OfEachSeat, IsOutcomeOfAll, all_sights, all_replies, IsClosed, CountsOnce, AnswersOnce, TogglesHaveCauses, ReadsWithin}
 use Rattle.std.proofs.Math.Logic.{∥∥₁_elim}
-use Rattle.std.specs.Coded.{coded_ℕ}
+use Rattle.std.specs.Coded.{coded_ℕ, coded_bool, le_prop}
 use base.Stored.{Coded-set}
 use Rattle.pd_shared.proofs.ActLemmas.{not_flag, yes_or_no, gone_there, attached_there}
 use Rattle.pd_shared.proofs.NumberLemmas.{over_own, off_fits, toggles_in, toggles_are}
+use Rattle.pd_shared.proofs.CauseLemmas.{cause_since, cause_of, disables_from_is, enables_from_is, each_left}
 use Rattle.pd_shared.proofs.AllLemmas.{some_weight, total_same, count_total, any_none, any_some, filter_total, map_total, over_total, all_all, late_weight, firsts_is, lates_is, makings_is, disposals_is, first_splits, finals_in, disables_is, enables_is, number_weight, numbers_is, numbers_counted, places, over_splits, sights_fit}
 
 -- ---- small facts
@@ -277,6 +282,30 @@ module _ (p : Layout) (ws : List ℕ) (views : List View) (id : ℕ) (v : View) 
   fits : All (FitsToggles b rs) ss
   fits = all_all (λ e. e.sights) SaysSo (FitsToggles b rs) fit_one own.sights left v.taken (fit_one v.deeds own did (says v.deeds of_own)) others (λ k d e. says d (λ f. of_other f k d e))
 
+  -- ---- the causes of its toggles that found nothing to change
+
+  disables_since : (x : ℕ) → 0 < total (of_all (toggles_from true b x)) views → list_any (disables_from b x) rs ≡ true
+  disables_since x some_there = any_some (disables_from b x) rs (subst (λ (n : ℕ). 0 < n) (whole (toggles_from true b x) (from_none true b x) ∙ by_replies (toggles_from true b x) (λ r. one_if (disables_from b x r)) (disables_from_is b x)) some_there)
+
+  enables_since : (x : ℕ) → 0 < total (of_all (toggles_from false b x)) views → list_any (enables_from b x) rs ≡ true
+  enables_since x some_there = any_some (enables_from b x) rs (subst (λ (n : ℕ). 0 < n) (whole (toggles_from false b x) (from_none false b x) ∙ by_replies (toggles_from false b x) (λ r. one_if (enables_from b x r)) (enables_from_is b x)) some_there)
+
+  abbrev there : Bool → ℕ → ℕ → ℕ
+  there kind c x = total (of_all (toggles_from kind c x)) views
+
+  cause_one : (d : Deeds) (e : Entries) → AreDeeds d e → Answered there d → EachAfter (HasCause b rs) e.replies
+  cause_one d e a answered k u lt_k = record {
+    disabled = λ is. disables_since 0 (cause_of there d e a answered b k u lt_k is);
+    disabled_since = λ is n before. disables_since n (cause_since there d e a answered b k n u true lt_k is before);
+    enabled_since = λ is n before. enables_since n (cause_since there d e a answered b k n u false lt_k is before);
+  }
+
+  pub causes_of_all : OfEachSeat (EachAfter (HasCause b rs)) own left
+  causes_of_all = (
+    cause_one v.deeds own did (g.answered id v at v.deeds (inl refl)),
+    each_left (Answered there) (EachAfter (HasCause b rs)) cause_one left v.taken others (λ k d e. g.answered id v at d (inr (k, e))),
+  )
+
   pub outcome_of_all : (seats : ℕ) (counts : List ℕ) → IsHeld p v seats counts → IsOutcomeOfAll b ss rs (tally_by w (slice_index counts b))
   outcome_of_all seats counts h =
       let is = count seats counts h in
@@ -318,6 +347,29 @@ pub answers_once : (p : Layout) (ws : List ℕ) (views : List View) (id : ℕ) (
 answers_once p ws views id v g at share s lt x =
     numbers_are s x v.talk ∙ (sym (whole_total p ws views id v (λ u. numbers s x u.talk) g at share (numbers_none s x)) ∙ (sym (map_total (numbers s x) talk_of views) ∙ (g.spoken.numbered s x lt ∙ below_test x (session_word p ws s))))
 
+-- ---- what was read
+
+reads_fit : (p : Layout) (ws : List ℕ) (views : List View) (id : ℕ) (v : View) (ended : Bool) (sessions : List Reads) (ends : Reads) → Good p ws views → get_elem? views id ≡ some v → AreReads p v.talk ended sessions ends → (s : ℕ) → s < p.sessions → (reads_at sessions s).last ≤ session_word p ws s
+reads_fit p ws views id v ended sessions ends g at r s lt = ⊎_elim
+    (λ (none : (reads_at sessions s).last ≡ 0). omega arith)
+    (λ (some_read : 0 < (reads_at sessions s).last). (g.spoken.heard id v.talk (at_map talk_of views id v at)).reads s (reads_at sessions s).last lt (r.last s lt some_read))
+    (either_zero (reads_at sessions s).last)
+
+ends_fit : (p : Layout) (ws : List ℕ) (views : List View) (id : ℕ) (v : View) (ended : Bool) (sessions : List Reads) (ends : Reads) → Good p ws views → get_elem? views id ≡ some v → v.seat_share ≡ 2 ^ 32 → AreReads p v.talk ended sessions ends → ends.last ≤ ends_of v.talk
+ends_fit p ws views id v ended sessions ends g at share r =
+    let all : ends_of v.talk ≡ end_word p ws = sym (whole_total p ws views id v (λ u. ends_of u.talk) g at share refl) ∙ (sym (map_total ends_of talk_of views) ∙ g.spoken.ends) in ⊎_elim
+    (λ (none : ends.last ≡ 0). omega arith)
+    (λ (some_read : 0 < ends.last). let low = (g.spoken.heard id v.talk (at_map talk_of views id v at)).end_reads ends.last (r.last_end some_read) in omega arith)
+    (either_zero ends.last)
+
+-- ---- each seat's toggles among its draws
+
+all_timed : (left : List Sights) (ds : List Deeds) → DidLeave left ds → All (λ d. (steps : ℕ) × Ordered d steps) ds
+all_timed [] [] k = All-nil (λ d. (steps : ℕ) × Ordered d steps)
+all_timed [] (d ∷ ds) k = absurd k
+all_timed (s ∷ more) [] k = absurd k
+all_timed (s ∷ more) (d ∷ ds) k = All-cons (λ d. (steps : ℕ) × Ordered d steps) d ds k.0.timed (all_timed more ds k.1)
+
 -- ---- the tally
 
 state_of : (w n : ℕ) (t : BindingTally) → t ≡ tally_by w n → t.state ≡ state_by (disposed w == 1) (attached w == 1)
@@ -336,10 +388,14 @@ not_unattached false e = cc
 some_state : (gone : Bool) (a : ℕ) → a ≡ 1 → state_by gone (a == 1) ≡ states.Unattached → ⊥
 some_state gone a e none = not_unattached gone (sym (ap (state_by gone) (eq-eqb a 1 e)) ∙ none)
 
-pub closed : (p : Layout) (last : Token) (ws : List ℕ) (tallies : List BindingTally) (counts : List ℕ) → IsLast p last.pass.view ws → AreDeeds last.pass.view.deeds last.journal → IsKnown p last.pass.view last.known.items → IsHeld p last.pass.view last.seats last.counts.items
+pub closed : (p : Layout) (last : Token) (ws : List ℕ) (tallies : List BindingTally) (counts : List ℕ) → IsLast p last.pass.view ws → IsTied p last.pass.view (book_of last) → IsHeld p last.pass.view last.seats last.counts.items
     → AreTallies ws (front p) last.counts.items (bindings p) tallies → AreNumbers ws (front p + bindings p) p.sessions counts → IsClosed p last tallies counts
-closed p last ws tallies counts end deeds known_is held are answers =
+closed p last ws tallies counts end tied held are answers =
     let all : 2 ^ 32 ≤ last.pass.view.seat_share → last.pass.view.seat_share ≡ 2 ^ 32 = (λ whole. omega (arith, total-at (λ (u : View). u.seat_share) end.0 end.2.0 last.pass.view end.2.1, end.1.counted.seats)) in
+    let gone : (b : ℕ) → b < bindings p → known_at last.known.items b ≡ knowns.Disposed → (slice_index_or tallies b no_tally).state ≡ states.Disposed =
+    (λ b lt e. state_of (binding_word p ws b) (slice_index last.counts.items b) (slice_index_or tallies b no_tally) (are.each b lt) ∙ gone_state (disposed (binding_word p ws b)) (attached (binding_word p ws b) == 1) (gone_there p ws end.0 end.2.0 b last.pass.view last.known.items end.1 end.2.1 lt tied.known_is e)) in
+    let read : (s : ℕ) → s < p.sessions → (reads_at last.sessions.items s).last ≤ slice_index counts s =
+    (λ s lt. subst (λ (n : ℕ). (reads_at last.sessions.items s).last ≤ n) (sym (answers.each s lt)) (reads_fit p ws end.0 end.2.0 last.pass.view last.ended last.sessions.items last.ends end.1 end.2.1 tied.reads s lt)) in
     record {
       bindings_are = are.length_is;
       sessions_are = answers.length_is;
@@ -352,11 +408,18 @@ closed p last ws tallies counts end deeds known_is held are answers =
           answers = answers.each;
         },
       );
-      known_gone = λ b lt e. state_of (binding_word p ws b) (slice_index last.counts.items b) (slice_index_or tallies b no_tally) (are.each b lt) ∙ gone_state (disposed (binding_word p ws b)) (attached (binding_word p ws b) == 1) (gone_there p ws end.0 end.2.0 b last.pass.view last.known.items end.1 end.2.1 lt known_is e);
-      known_attached = λ b lt e none. some_state (disposed (binding_word p ws b) == 1) (attached (binding_word p ws b)) (attached_there p ws end.0 end.2.0 b last.pass.view last.known.items end.1 end.2.1 lt known_is e)
+      known_gone = gone;
+      known_attached = λ b lt e none. some_state (disposed (binding_word p ws b) == 1) (attached (binding_word p ws b)) (attached_there p ws end.0 end.2.0 b last.pass.view last.known.items end.1 end.2.1 lt tied.known_is e)
           (sym (state_of (binding_word p ws b) (slice_index last.counts.items b) (slice_index_or tallies b no_tally) (are.each b lt)) ∙ none);
+      own = record { gone = λ b lt e. gone b lt (tied.gone b e); read = read };
+      others = λ left learned k d lt_k. let of_seat = learned k d lt_k in record { gone = λ b lt e. gone b lt (of_seat.gone b e); read = λ s lt. omega (arith, of_seat.answers s, read s lt) };
+      ends = λ whole. ends_fit p ws end.0 end.2.0 last.pass.view last.ended last.sessions.items last.ends end.1 end.2.1 (all whole) tied.reads;
       outcomes = λ whole left did b lt. let share = all whole in subst (IsOutcomeOfAll b (all_sights last.journal left) (all_replies last.journal left)) (sym (are.each b lt))
-          (outcome_of_all p ws end.0 end.2.0 last.pass.view end.1 end.2.1 share last.journal left deeds did b lt last.seats last.counts.items held);
+          (outcome_of_all p ws end.0 end.2.0 last.pass.view end.1 end.2.1 share last.journal left tied.deeds did b lt last.seats last.counts.items held);
+      others_ends = λ whole left learned k d lt_k. let low = ends_fit p ws end.0 end.2.0 last.pass.view last.ended last.sessions.items last.ends end.1 end.2.1 (all whole) tied.reads in omega (arith, (learned k d lt_k).ends, low);
+      timed = λ left did. All-cons (λ d. (steps : ℕ) × Ordered d steps) last.pass.view.deeds last.pass.view.taken tied.deeds.timed (all_timed left last.pass.view.taken did);
+      order = λ left did b. (tied.deeds.order b, each_left (λ d. Unit {0}) (EachAfter (IsInOrder b)) (λ d e a u. a.order b) left last.pass.view.taken did (λ k d e. tt));
+      causes = λ whole left did b lt. causes_of_all p ws end.0 end.2.0 last.pass.view end.1 end.2.1 (all whole) last.journal left tied.deeds did b lt;
       numbers = λ whole s lt. let share = all whole in subst (λ (n : ℕ). OnceBelow n (filter_map (number_for s) (last.pass.view.talk.numbers ++ last.pass.view.talk.handed))) (sym (answers.each s lt)) (answers_once p ws end.0 end.2.0 last.pass.view end.1 end.2.1 share s lt);
     }
 
@@ -368,7 +431,7 @@ pub closed_by : (p : Layout) (last : Token) (ws words words_2 founds : List ℕ)
 closed_by p last ws words words_2 founds nodes nodes_2 rows count sessions made tallies read counts end tied held words_are words_2_are founds_are nodes_are nodes_2_are rows_are count_is sessions_are tallies_are counts_are of_bindings of_sessions =
     let first : nodes + nodes_2 * rows ≡ front p = (λ i. nodes_are i + nodes_2_are i * rows_are i) ∙ sym (front_is p) in
     let long : length founds ≡ bindings p = ap length founds_are ∙ held.counts_are in
-    closed p last ws tallies counts end tied.deeds tied.known_is held
+    closed p last ws tallies counts end tied held
     (subst (λ (x : List ℕ × ℕ × List ℕ × ℕ × List BindingTally). AreTallies x.0 x.1 x.2 x.3 x.4) (λ i. (words_are i, first i, founds_are i, long i, sym tallies_are i)) of_bindings)
     (subst (λ (x : List ℕ × ℕ × ℕ × ℕ × List ℕ). AreNumbers x.0 (x.1 + x.2) x.3 x.4) (λ i. (words_2_are i, first i, count_is i, sessions_are i, sym counts_are i)) of_sessions)
 
@@ -379,3 +442,21 @@ counts_once p last tallies read counts kept is = subst (CountsOnce last) (sym is
 
 pub answers_once_all : (p : Layout) (last : Token) (tallies : List BindingTally) (counts read : List ℕ) → ∥ IsClosed p last tallies counts ∥₁ → read ≡ counts → AnswersOnce last read
 answers_once_all p last tallies counts read kept is = subst (AnswersOnce last) (sym is) (λ whole s lt x. ∥∥₁_elim kept (Coded-set coded_ℕ _ _) (λ (h : IsClosed p last tallies counts). h.numbers whole s (omega (arith, h.sessions_are)) x))
+
+-- a cause is a fact, so it may come from what is only known to hold
+cause_by : {X : Type 0} (b : ℕ) (replies before : List ActResult) (r : ActResult) → ∥ X ∥₁ → (X → HasCause b replies before r) → HasCause b replies before r
+cause_by {X} b replies before r kept h = record {
+  disabled = λ is. ∥∥₁_elim kept (Coded-set coded_bool _ _) (λ (x : X). (h x).disabled is);
+  disabled_since = λ is n had. ∥∥₁_elim kept (Coded-set coded_bool _ _) (λ (x : X). (h x).disabled_since is n had);
+  enabled_since = λ is n had. ∥∥₁_elim kept (Coded-set coded_bool _ _) (λ (x : X). (h x).enabled_since is n had);
+}
+
+pub toggles_have_causes : (p : Layout) (last : Token) (tallies read : List BindingTally) (counts : List ℕ) → ∥ IsClosed p last tallies counts ∥₁ → read ≡ tallies → TogglesHaveCauses last read
+toggles_have_causes p last tallies read counts kept is = subst (TogglesHaveCauses last) (sym is) (λ whole left did b lt.
+    let of : (h : IsClosed p last tallies counts) → OfEachSeat (EachAfter (HasCause b (all_replies last.journal left))) last.journal left = (λ h. h.causes whole left did b (omega (arith, h.bindings_are))) in (
+      λ k d low. cause_by b (all_replies last.journal left) _ _ kept (λ h. (of h).0 k d low),
+      λ i s there k d low. cause_by b (all_replies last.journal left) _ _ kept (λ h. (of h).1 i s there k d low),
+    ))
+
+pub reads_within : (p : Layout) (last : Token) (tallies : List BindingTally) (counts read : List ℕ) → ∥ IsClosed p last tallies counts ∥₁ → read ≡ counts → ReadsWithin last read
+reads_within p last tallies counts read kept is = subst (ReadsWithin last) (sym is) (λ s lt. ∥∥₁_elim kept le_prop (λ (h : IsClosed p last tallies counts). h.own.read s (omega (arith, h.sessions_are))))

@@ -19,14 +19,16 @@ use Rattle.pd_core.specs.Views.{Known as Found_as, fresh, found_attached, found_
 use Rattle.pd_core.specs.Kinds.{Found, after, load_binding, draw}
 use Rattle.pd_core.proofs.Sums.{times_else, times_here}
 use Rattle.pd_core.proofs.Bits.{disposed_fits}
-use Rattle.pd_core.proofs.Attaches.{both, eqb_is}
+use Rattle.pd_core.proofs.Attaches.{eqb_is}
 use Rattle.pd_core.proofs.Waves.{known_fresh, known_attached, is_disposed, is_attached, same_known}
 use Rattle.pd_core.proofs.Facts.{known_drew_off, known_drew_on}
 use Rattle.pd_board.specs.Journal.{Entries}
 use Rattle.pd_shared.specs.Book.{Book, known_at}
-use Rattle.pd_shared.specs.Tied.{told, drawn_of, sight_of, before_of, is_alone, IsKnown, AreDeeds, AreReads, KnowsAlone, KnowsTried, IsTied}
+use Rattle.pd_shared.specs.Tied.{told, drawn_of, sight_of, before_of, is_alone, IsKnown, AreDeeds, AreReads, KnowsAlone, KnowsGone, IsTied}
 use Rattle.pd_shared.specs.Took.{Took, DrawSteps, drew, looked, both as both_steps, Ready, at_once, looked_live, drawn_as, drawn_by, known_drawn, known_looked}
-use Rattle.pd_shared.proofs.ActLemmas.{yes_or_no, not_flag, known_change, alone_change, alone_disposed, tried_same}
+use Rattle.pd_shared.proofs.ActLemmas.{yes_or_no, not_flag, known_change, alone_change, alone_disposed, gone_same}
+use Rattle.pd_core.specs.Good.{Ordered}
+use Rattle.pd_shared.proofs.OrderLemmas.{live_not_gone, drawn_timed, looked_timed}
 use Rattle.pd_shared.proofs.NumberLemmas.{numbers_low, limit_is, toggles_low}
 
 -- ---- the steps
@@ -35,10 +37,6 @@ pub attached_left : (k : Found_as) → (told k ≡ knowns.Fresh → ⊥) → is_
 attached_left found_attached h g = refl
 attached_left fresh h g = absurd (h refl)
 attached_left found_disposed h g = absurd (cc)
-
-pub live_not_gone : (w : ℕ) → live w ≡ true → disposed w ≡ 0
-unfolding live
-live_not_gone w e = eqb_is (disposed w) 0 (both (attached w == 1) (disposed w == 0) e).1
 
 pub looked_attached : (p : Layout) (event b u : ℕ) (v : View) → known v b ≡ fresh → live u ≡ true → known (after p (load_binding event b) u v) b ≡ found_attached
 looked_attached p event b u v new on =
@@ -70,8 +68,8 @@ missed_by w n e o is = (ap drawns.Missed is ∙ sym (λ i. drawn_as (e i) (o i) 
 abbrev pub with_sight : Entries → Sight → ℕ → Entries
 with_sight e s loads = record e { sights = e.sights ++ s ∷ []; sight_loads = e.sight_loads ++ loads ∷ []; spare = e.spare - 1 }
 
-deeds_seen : (d n : Deeds) (e m : Entries) (s : Seen) (loads : ℕ) → AreDeeds d e → n ≡ record d { sights = d.sights ++ s ∷ [] } → before_of s ≡ loads → m ≡ with_sight e (sight_of s) loads → AreDeeds n m
-deeds_seen d n e m s loads k is before more = subst (λ (y : Deeds). AreDeeds y m) (sym is) (subst (λ (y : Entries). AreDeeds (record d { sights = d.sights ++ s ∷ [] }) y) (sym more) (record {
+deeds_seen : (d n : Deeds) (e m : Entries) (s : Seen) (loads : ℕ) → AreDeeds d e → n ≡ record d { sights = d.sights ++ s ∷ [] } → before_of s ≡ loads → m ≡ with_sight e (sight_of s) loads → (steps : ℕ) × Ordered (record d { sights = d.sights ++ s ∷ [] }) steps → AreDeeds n m
+deeds_seen d n e m s loads k is before more timed = subst (λ (y : Deeds). AreDeeds y m) (sym is) (subst (λ (y : Entries). AreDeeds (record d { sights = d.sights ++ s ∷ [] }) y) (sym more) (record {
   sights = ap (λ (xs : List Sight). xs ++ sight_of s ∷ []) k.sights ∙ sym (map-append sight_of d.sights (s ∷ []));
   befores = (λ i. k.befores i ++ sym before i ∷ []) ∙ sym (map-append before_of d.sights (s ∷ []));
   made = k.made;
@@ -79,19 +77,21 @@ deeds_seen d n e m s loads k is before more = subst (λ (y : Deeds). AreDeeds y 
   late = k.late;
   counts = k.counts;
   toggles = k.toggles;
+  order = k.order;
+  timed = timed;
 }))
 
-tied_seen : (p : Layout) (v w : View) (k : Book) (m : Entries) (b : ℕ) (x : Known) (s : Seen) → b < bindings p → IsTied p v k → m ≡ with_sight k.entries (sight_of s) k.all_loads → before_of s ≡ length v.loads → w.deeds ≡ record v.deeds { sights = v.deeds.sights ++ s ∷ [] } → w.attaching ≡ v.attaching → w.talk ≡ v.talk → w.loads ≡ v.loads → w.cleared ≡ v.cleared → is_alone w ≡ is_alone v
+tied_seen : (p : Layout) (v w : View) (k : Book) (m : Entries) (b : ℕ) (x : Known) (s : Seen) → b < bindings p → IsTied p v k → m ≡ with_sight k.entries (sight_of s) k.all_loads → before_of s ≡ length v.loads → w.deeds ≡ record v.deeds { sights = v.deeds.sights ++ s ∷ [] } → (steps : ℕ) × Ordered (record v.deeds { sights = v.deeds.sights ++ s ∷ [] }) steps → w.attaching ≡ v.attaching → w.talk ≡ v.talk → w.loads ≡ v.loads → w.cleared ≡ v.cleared → is_alone w ≡ is_alone v
     → x ≡ told (known w b) → ((c : ℕ) → c ≢ b → known w c ≡ known v c) → (is_alone v ≡ true → x ≡ knowns.Disposed → has_disposal b k.entries.replies ≡ true) → (known_at k.known b ≡ knowns.Disposed → x ≡ knowns.Disposed) → IsTied p w (record k { known = slice_set k.known b x; entries = m })
-tied_seen p v w k m b x s lt t more before deeds idle talk loads cleared same here others new stays = record {
+tied_seen p v w k m b x s lt t more before deeds timed idle talk loads cleared same here others new stays = record {
   idle = idle ∙ t.idle;
   known_is = known_change p v w k.known b x lt t.known_is here others;
-  deeds = deeds_seen v.deeds w.deeds k.entries m s k.all_loads t.deeds deeds (before ∙ t.all_loads) more;
+  deeds = deeds_seen v.deeds w.deeds k.entries m s k.all_loads t.deeds deeds (before ∙ t.all_loads) more timed;
   reads = subst (λ y. AreReads p y k.ended k.sessions k.ends) (sym talk) t.reads;
   all_loads = ap length loads ∙ t.all_loads;
   cleared = ap length cleared ∙ t.cleared;
   alone = subst (λ (y : Entries). KnowsAlone w (slice_set k.known b x) y.replies) (sym more) (alone_change v w k.known k.entries.replies k.entries.replies b x (omega (arith, t.known_is.0)) t.alone same (λ c h. h) new);
-  tried = subst (λ (y : Entries). KnowsTried (slice_set k.known b x) y.replies) (sym more) (tried_same k.known k.entries.replies b x (omega (arith, t.known_is.0)) t.tried stays);
+  gone = subst (λ (y : Entries). KnowsGone (slice_set k.known b x) y.replies) (sym more) (gone_same k.known k.entries.replies b x (omega (arith, t.known_is.0)) t.gone stays);
   loads = t.loads;
 }
 
@@ -161,7 +161,7 @@ tied_drew p event b w v k m drawn x lt t is f d later more =
     let next : View = after p (draw event b) w v in
     tied_seen p v next k m b x (sight event b (outcome (live w) (off w == 1) (sum_in w)) v) lt t
     (more ∙ ap (λ (y : Drawn). with_sight k.entries (record { event = event; binding = b; drawn = y }) k.all_loads) (d ∙ sym (drawn_same (live w) (off w == 1) (sum_in w))))
-    refl refl refl refl refl refl refl
+    refl refl (drawn_timed p b w v f.0.words f.0.views f.2.0 f.1 f.2.1 lt f.3 event) refl refl refl refl refl
     (later ∙ known_later p event b w v is)
     (λ c ne. same_known v next c (times_else c b v.found_disposed (not (live w)) ne) refl)
     (λ a gone. drew_alone p event b w v k.entries lt is t.deeds f a (by_live w (sym later ∙ gone)))
@@ -175,7 +175,7 @@ tied_looked p event b w v k m drawn x lt t new f dead d later more =
     let on_same : (c : ℕ) → times c next.found_attached ≡ times c v.found_attached = λ c. ap (λ (y : Bool). times c (v.found_attached ++ only_if y b)) dead ∙ ap (times c) (append-nil v.found_attached) in
     tied_seen p v next k m b x s lt t
     (more ∙ ap (λ (y : Drawn). with_sight k.entries (record { event = event; binding = b; drawn = y }) k.all_loads) d)
-    refl (ap (λ (y : Bool). record v.deeds { sights = v.deeds.sights ++ only_if (not y) s }) dead) refl refl refl refl refl
+    refl (ap (λ (y : Bool). record v.deeds { sights = v.deeds.sights ++ only_if (not y) s }) dead) (looked_timed p event b v f.0.words f.0.views f.2.0 f.1 f.2.1) refl refl refl refl refl
     (later ∙ ⊎_elim
     (λ (gone : (disposed w == 1) ≡ true). ap (λ (y : Bool). if y then knowns.Disposed else knowns.Fresh) gone
     ∙ ap told (sym (is_disposed next b (subst (λ (y : Bool). 0 < times b (v.found_disposed ++ only_if y b)) (sym gone) (times_here b b v.found_disposed refl)))))
@@ -205,7 +205,7 @@ tied_live p event b u v k lt t new on =
       all_loads = t.all_loads;
       cleared = t.cleared;
       alone = alone_change v next k.known k.entries.replies k.entries.replies b knowns.Attached (omega (arith, t.known_is.0)) t.alone refl (λ c h. h) (λ a q. absurd (cc));
-      tried = tried_same k.known k.entries.replies b knowns.Attached (omega (arith, t.known_is.0)) t.tried (not_gone_by p v k.known b fresh knowns.Attached lt t.known_is new (λ q. absurd (cc)));
+      gone = gone_same k.known k.entries.replies b knowns.Attached (omega (arith, t.known_is.0)) t.gone (not_gone_by p v k.known b fresh knowns.Attached lt t.known_is new (λ q. absurd (cc)));
       loads = t.loads;
     }
 

@@ -2,18 +2,18 @@
 use Rattle.std.proofs.Common.{◌≡◌, ℕ, zero, suc, ◌-◌, ◌<◌, ◌≤◌, ◌^◌, List, [], length, replicate, get_or, true, false, sym, refl, ap, ◌∙◌, subst, arith}
 use Rattle.std.specs.Prelude.{slice_index}
 use Rattle.pd_board.specs.declared.answers.Known.TheVariants as knowns
-use Rattle.pd_board.specs.Answers.{has_dispose}
 use Rattle.pd_core.specs.declared.view.View.{View}
 use Rattle.pd_core.specs.Layout.{Layout, bindings}
 use Rattle.pd_core.specs.Counts.{total, first_is}
 use Rattle.pd_core.specs.Talks.{silent, spent}
 use Rattle.pd_core.specs.Views.{fresh, known, known_in, known_of, first_view, spent_view, newcomer, no_deeds}
+use Rattle.pd_core.proofs.Parts.{ordered_none}
 use Rattle.pd_core.proofs.Sums.{total-none, times-none}
 use Rattle.pd_board.specs.Journal.{Entries}
 use Rattle.pd_shared.specs.declared.token.Reads.{Reads}
 use Rattle.pd_shared.specs.declared.token.Token.{Token}
 use Rattle.pd_shared.specs.Book.{book_of, known_at, reads_at, unread}
-use Rattle.pd_shared.specs.Tied.{told, is_alone, IsKnown, AreDeeds, IsTied}
+use Rattle.pd_shared.specs.Tied.{told, has_gone, is_alone, IsKnown, AreDeeds, IsTied}
 use Rattle.pd_shared.specs.Held.{IsHeld}
 use Rattle.pd_shared.proofs.HeldLemmas.{held_first}
 use Rattle.pd_shared.specs.First.{IsFirst}
@@ -49,7 +49,7 @@ tied_blank p t share draws granted ends on gone f known_is never =
     record {
       idle = refl;
       known_is = known_is;
-      deeds = subst (λ (e : Entries). AreDeeds no_deeds e) (sym f.journal) (record { sights = refl; befores = refl; made = refl; firsts = refl; late = refl; counts = refl; toggles = refl });
+      deeds = subst (λ (e : Entries). AreDeeds no_deeds e) (sym f.journal) (record { sights = refl; befores = refl; made = refl; firsts = refl; late = refl; counts = refl; toggles = refl; order = λ b j y lt. absurd (omega arith); timed = (0, ordered_none 0) });
       reads = record {
         ended_is = sym f.ended;
         sessions_are = ap length f.sessions ∙ long p.sessions unread;
@@ -62,7 +62,7 @@ tied_blank p t share draws granted ends on gone f known_is never =
       all_loads = sym f.all_loads;
       cleared = sym f.cleared;
       alone = λ a b e. absurd (never a b e);
-      tried = λ b h. absurd (let q : false ≡ true = sym (ap (λ (e : Entries). has_dispose b e.replies) f.journal) ∙ h in cc);
+      gone = λ b h. absurd (let q : false ≡ true = sym (ap (λ (e : Entries). has_gone b e.replies) f.journal) ∙ h in cc);
       loads = (ap length f.loads ∙ long p.nodes 0, λ n. let none : slice_index t.loads.items n ≡ 0 = ap (λ xs. slice_index xs n) f.loads ∙ each_same p.nodes n 0 in omega arith);
     }
 

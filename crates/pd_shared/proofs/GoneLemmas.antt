@@ -307,7 +307,7 @@ tied_row p table n r w v k now same_rows t f row_known len = record {
       alone_disposed p f.0.words f.0.views f.2.0 b v k.entries f.1 f.2.1 t.deeds a lt (gone_unmarked p f.0.words f.0.views n b f.1 lt on (matches_by p table same_rows b n q.1) unmarked))
       (λ (out : bindings p ≤ b). absurd (let none : knowns.Fresh ≡ knowns.Attached = sym (past_end k.known b (omega (arith, t.known_is.0))) ∙ q.3 in cc)))
       (gone_before (b / 64 == r) (in_row table b n) (bit_of w (b % 64) == 1) (known_at k.known b) (sym (row_known b) ∙ e));
-  tried = λ b h. row_stays table n r w b k.known now row_known (t.tried b h);
+  gone = λ b h. row_stays table n r w b k.known now row_known (t.gone b h);
   loads = t.loads;
 }
 
@@ -319,7 +319,7 @@ row_matching p table n r w b v same_rows node within f here set =
 -- ---- a load of a summary
 
 pub tied_node : (p : Layout) (n w : ℕ) (v : View) (k : Book) → IsTied p v k → IsTied p (after p (load_node n) w v) (record k { all_loads = k.all_loads + 1 })
-tied_node p n w v k t = record { idle = t.idle; known_is = t.known_is; deeds = t.deeds; reads = t.reads; all_loads = omega (arith, length-append v.loads (n ∷ []), t.all_loads); cleared = t.cleared; alone = t.alone; tried = t.tried; loads = (t.loads.0, λ i. let was = t.loads.1 i in omega arith) }
+tied_node p n w v k t = record { idle = t.idle; known_is = t.known_is; deeds = t.deeds; reads = t.reads; all_loads = omega (arith, length-append v.loads (n ∷ []), t.all_loads); cleared = t.cleared; alone = t.alone; gone = t.gone; loads = (t.loads.0, λ i. let was = t.loads.1 i in omega arith) }
 
 -- a row word that the summary lacks has no binding that would be found missing
 pub no_row : (p : Layout) (table : MatchTable) (n w b : ℕ) (v : View) (ks : List Known) → table.rows ≡ p.rows → Found p (load_node n) v w → IsKnown p v ks → (bit_of w (b / 64) == 1) ≡ false → known_after_load (in_row table b n) false (known_at ks b) ≡ known_at ks b

@@ -1,13 +1,15 @@
 -- What a split and a retired seat leave.
 use Rattle.std.specs.declared.vec.Vec.{Vec}
 use Rattle.std.specs.declared.alloc.Global.{Global}
-use Rattle.std.proofs.Common.{◌≡◌, ℕ, zero, suc, ◌+◌, ◌-◌, ◌<◌, ◌≤◌, ◌^◌, max, List, [], ◌∷◌, ◌++◌, map, length, replicate, Bool, true, false, ◌&&◌, eqb, sym, refl, ap, ◌∙◌, subst, arith, ne_eqb, get_or}
-use Rattle.std.specs.Prelude.{slice_index}
+use Rattle.std.proofs.Common.{◌≡◌, ℕ, zero, suc, ◌+◌, ◌-◌, ◌<◌, ◌≤◌, ◌^◌, max, min, List, [], ◌∷◌, ◌++◌, map, length, replicate, Bool, true, false, ◌&&◌, eqb, sym, refl, ap, ◌∙◌, subst, arith, ne_eqb, get_or}
+use Rattle.std.specs.Prelude.{slice_index, slice_index_or}
+use Rattle.std.proofs.lemmas.List.Elements.{All-append, All-cons}
+use native.Mathlib.Nat.{le-max_left, le-max_right, le_trans}
 use Rattle.std.specs.List.{filter_map}
 use Rattle.pd_board.proofs.ChainLemmas.{by_lt}
 use Rattle.pd_board.specs.declared.answers.Known.{Known}
 use Rattle.pd_board.specs.declared.answers.Known.TheVariants as knowns
-use Rattle.pd_board.specs.Standing.{IsNew}
+use Rattle.pd_board.specs.Standing.{Standing, IsNew}
 use Rattle.pd_core.specs.declared.view.View.{View}
 use Rattle.pd_core.specs.declared.view.Deeds.{Deeds}
 use Rattle.pd_core.specs.declared.view.Talk.{Talk}
@@ -22,11 +24,11 @@ use Rattle.pd_shared.specs.declared.sights.Sights.{Sights}
 use Rattle.pd_board.specs.Journal.{Entries}
 use Rattle.pd_shared.specs.Book.{Book, known_at, reads_at, unread}
 use Rattle.pd_shared.specs.First.{IsFirst}
-use Rattle.pd_shared.specs.Tied.{none_taken, is_alone, AreDeeds, AreReads, IsTied, sight_of, before_of}
+use Rattle.pd_shared.specs.Tied.{none_taken, is_alone, AreDeeds, AreReads, KnowsGone, IsTied, sight_of, before_of}
 use Rattle.pd_shared.specs.Held.{IsHeld}
 use Rattle.pd_shared.specs.Merged.{later, with_last, IsMerged}
 use Rattle.pd_shared.specs.Sitting.{Sitting, standing_of, number_for}
-use Rattle.pd_shared.specs.Left.{HasHanded, IsNewcomer, TakesIn, DidLeave}
+use Rattle.pd_shared.specs.Left.{HasHanded, IsNewcomer, Leaves, TakesIn, DidLeave, Learned, HasLearned}
 use Rattle.pd_shared.proofs.FirstLemmas.{each_same}
 use Rattle.pd_shared.proofs.HeldLemmas.{joined_taken}
 use Rattle.pd_shared.proofs.MergeLemmas.{share_joined}
@@ -58,14 +60,15 @@ tied_halved p v k may not_alone t = record {
   all_loads = t.all_loads;
   cleared = t.cleared;
   alone = λ a b gone. absurd (let q : false ≡ true = sym not_alone ∙ a in cc);
-  tried = t.tried;
+  gone = t.gone;
   loads = t.loads;
 }
 
-pub has_handed : (old : Sitting) (id : TableId) (v : View) (seats : ℕ) → v ≡ halved old.token.pass.view → is_alone (halved old.token.pass.view) ≡ false → HasHanded old (record old { token = record old.token { pass = record { id = id; view = v }; seats = seats } })
-has_handed old id v seats e not_alone = subst (λ (y : View). HasHanded old (record old { token = record old.token { pass = record { id = id; view = y }; seats = seats } })) (sym e) (record {
+pub has_handed : (old : Sitting) (id : TableId) (v : View) (seats : ℕ) → v ≡ halved old.token.pass.view → seats ≡ old.token.seats - 1 → is_alone (halved old.token.pass.view) ≡ false → HasHanded old (record old { token = record old.token { pass = record { id = id; view = v }; seats = seats } })
+has_handed old id v seats e count not_alone = subst (λ (y : View). HasHanded old (record old { token = record old.token { pass = record { id = id; view = y }; seats = seats } })) (sym e) (record {
   hub = refl;
   view = refl;
+  seats = count;
   stands = λ i. record (standing_of old) {
     alone = not_alone i;
     draw_share = old.token.pass.view.draw_share - handed_share;
@@ -83,13 +86,14 @@ pub first_share : (s : ℕ) → answer_share s first_talk ≡ 2 ^ 32 - 1
 unfolding spent total
 first_share s = refl
 
-pub newcomer_is : (old new : Sitting) (n m k : ℕ) → new.hub ≡ old.hub → new.table ≡ old.table → new.token.pass.view ≡ newcomer old.token.pass.view → new.token.known.items ≡ old.token.known.items → IsFirst (replicate n 0) (replicate m 0) (replicate k unread) new.token → IsNewcomer old new
-newcomer_is old new n m k hub table view known f =
+pub newcomer_is : (old new : Sitting) (n m k : ℕ) → new.hub ≡ old.hub → new.table ≡ old.table → new.token.pass.view ≡ newcomer old.token.pass.view → new.token.seats ≡ 1 → new.token.known.items ≡ old.token.known.items → IsFirst (replicate n 0) (replicate m 0) (replicate k unread) new.token → IsNewcomer old new
+newcomer_is old new n m k hub table view seats known f =
     let read_now : (s : ℕ) → reads_at new.token.sessions.items s ≡ unread = λ s. ap (λ ws. reads_at ws s) f.sessions ∙ each_same k s unread in
     record {
       hub = hub;
       table = table;
       view = view;
+      seats = seats;
       alone = ap (λ (y : View). is_alone y) view;
       known = λ b. ap (λ ks. known_at ks b) known;
       shares = (ap (λ (y : View). y.draw_share) view, λ s. ap (λ (y : View). answer_share s y.talk) view ∙ new_share s, ap (λ (y : View). y.talk.end_granted) view);
@@ -146,17 +150,18 @@ even_lists d e a = ap length a.befores ∙ (len before_of d.sights ∙ sym (ap l
     len f [] = refl
     len f (x ∷ xs) = ap suc (len f xs)
 
-pub takes_in : (old : Sitting) (other : Token) (id : TableId) (v : View) (seats : ℕ) (known_list : Vec Known Global) (counts : Vec ℕ Global) (sessions : Vec Reads Global) (ends : Reads) → v ≡ joined old.token.pass.view other.pass.view
+pub takes_in : (old : Sitting) (other : Token) (id : TableId) (v : View) (seats : ℕ) (known_list : Vec Known Global) (counts : Vec ℕ Global) (sessions : Vec Reads Global) (ends : Reads) → v ≡ joined old.token.pass.view other.pass.view → seats ≡ min (old.token.seats + other.seats) (2 ^ 64 - 1)
     → IsMerged later knowns.Fresh (length old.token.known.items) old.token.known.items other.known.items known_list.items → length other.known.items ≡ length old.token.known.items
     → IsMerged with_last unread (length old.token.sessions.items) old.token.sessions.items other.sessions.items sessions.items → length other.sessions.items ≡ length old.token.sessions.items → ends ≡ with_last old.token.ends other.ends
     → ((s : ℕ) → s < old.hub.layout.sessions → spent s old.token.pass.view.talk ≤ old.token.pass.view.talk.granted) → ((s : ℕ) → s < old.hub.layout.sessions → spent s other.pass.view.talk ≤ other.pass.view.talk.granted) → TakesIn old other (record old { token = record old.token { pass = record { id = id; view = v }; seats = seats; known = known_list; counts = counts; sessions = sessions; ends = ends } })
-takes_in old other id v seats known_list counts sessions ends e m ml n nl is mine theirs =
+takes_in old other id v seats known_list counts sessions ends e count m ml n nl is mine theirs =
     let read : (s : ℕ) → reads_at sessions.items s ≡ with_last (reads_at old.token.sessions.items s) (reads_at other.sessions.items s) = λ s. by_lt s (length old.token.sessions.items)
     (λ (lt : s < length old.token.sessions.items). n.below s lt)
     (λ (past : length old.token.sessions.items ≤ s). n.above s past ∙ (past_all old.token.sessions.items s unread past ∙ (λ i. with_last (sym (past_all old.token.sessions.items s unread past) i) (sym (past_all other.sessions.items s unread (omega (arith, nl))) i)))) in
     subst (λ (y : View × Reads). TakesIn old other (record old { token = record old.token { pass = record { id = id; view = y.0 }; seats = seats; known = known_list; counts = counts; sessions = sessions; ends = y.1 } })) (λ i. (sym e i, sym is i)) (record {
       hub = refl;
       view = refl;
+      seats = count;
       known = λ b. by_lt b (length old.token.known.items)
           (λ (lt : b < length old.token.known.items). m.below b lt)
           (λ (past : length old.token.known.items ≤ b). m.above b past ∙ (past_all old.token.known.items b knowns.Fresh past ∙ (λ i. later (sym (past_all old.token.known.items b knowns.Fresh past) i) (sym (past_all other.known.items b knowns.Fresh (omega (arith, ml))) i))));
@@ -187,3 +192,42 @@ did_leave [] others [] es s d h here there = (here, there)
 did_leave [] others (x ∷ ds) es s d h here there = absurd h
 did_leave (x ∷ left) others [] es s d h here there = absurd h
 did_leave (x ∷ left) others (y ∷ ds) es s d h here there = (h.0, did_leave left others ds es s d h.1 here there)
+
+-- ---- what the one that takes it in learns
+
+later_disposed : (k : Known) → later k knowns.Disposed ≡ knowns.Disposed
+later_disposed knowns.Fresh = refl
+later_disposed knowns.Attached = refl
+later_disposed knowns.Disposed = refl
+
+module _ (old : Sitting) (t : Token) (new : Sitting) (took : TakesIn old t new) where
+  last_ends : new.token.ends.last ≡ max old.token.ends.last t.ends.last
+  last_ends = ap (λ (s : Standing). s.last_ends) took.stands
+
+  -- of a seat from which this one had learned
+  still_learned : (s : Sights) → Learned old.token s → Learned new.token s
+  still_learned s h = record {
+    gone = λ b e. took.known b ∙ ap (λ (k : Known). later k (known_at t.known.items b)) (h.gone b e);
+    answers = λ k. le_trans (h.answers k) (subst (λ (n : ℕ). (reads_at old.token.sessions.items k).last ≤ n) (sym (took.last_answers k)) (le-max_left (reads_at old.token.sessions.items k).last (reads_at t.sessions.items k).last));
+    ends = le_trans h.ends (subst (λ (n : ℕ). old.token.ends.last ≤ n) (sym last_ends) (le-max_left old.token.ends.last t.ends.last));
+  }
+
+  -- and of one from which the other had
+  also_learned : (s : Sights) → Learned t s → Learned new.token s
+  also_learned s h = record {
+    gone = λ b e. took.known b ∙ (ap (λ (k : Known). later (known_at old.token.known.items b) k) (h.gone b e) ∙ later_disposed (known_at old.token.known.items b));
+    answers = λ k. le_trans (h.answers k) (subst (λ (n : ℕ). (reads_at t.sessions.items k).last ≤ n) (sym (took.last_answers k)) (le-max_right (reads_at old.token.sessions.items k).last (reads_at t.sessions.items k).last));
+    ends = le_trans h.ends (subst (λ (n : ℕ). t.ends.last ≤ n) (sym last_ends) (le-max_right old.token.ends.last t.ends.last));
+  }
+
+  pub has_learned : (s : Sights) → Leaves t s → KnowsGone t.known.items t.journal.replies → (left others : List Sights) → HasLearned old.token left → HasLearned t others → HasLearned new.token (left ++ s ∷ others)
+  has_learned s leaves tried left others mine theirs = All-append (Learned new.token) left (s ∷ others)
+      (λ k d lt. still_learned (slice_index_or left k d) (mine k d lt))
+      (All-cons (Learned new.token) s others (also_learned s own) (λ k d lt. also_learned (slice_index_or others k d) (theirs k d lt)))
+    where
+      own : Learned t s
+      own = record {
+        gone = subst (λ (e : Entries). KnowsGone t.known.items e.replies) (sym leaves.journal) tried;
+        answers = λ k. subst (λ (rs : List Reads). (reads_at rs k).last ≤ (reads_at t.sessions.items k).last) (sym leaves.sessions) (omega arith);
+        ends = subst (λ (r : Reads). r.last ≤ t.ends.last) (sym leaves.ends) (omega arith);
+      }

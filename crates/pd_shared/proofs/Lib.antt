@@ -6,12 +6,14 @@ pub mod GoneLemmas
 pub mod LoadLemmas
 pub mod MarkLemmas
 pub mod NumberLemmas
+pub mod OrderLemmas
 pub mod SwitchLemmas
 pub mod TalkLemmas
 pub mod HeldLemmas
 pub mod MergeLemmas
 pub mod LeftLemmas
 pub mod AllLemmas
+pub mod CauseLemmas
 pub mod CloseLemmas
 pub mod StepLemmas
 pub mod CostLemmas

@@ -105,7 +105,7 @@ tied_joined p v w k o ks ss t u m n = record {
   all_loads = t.all_loads;
   cleared = t.cleared;
   alone = λ a b gone. absurd (let q : false ≡ true = sym (joined_taken v w) ∙ (both (eqb (joined v w).seat_share (2 ^ 32)) (none_taken (joined v w).taken) a).1 in cc);
-  tried = λ b h. let was = t.tried b h in by_lt b (length k.known)
+  gone = λ b h. let was = t.gone b h in by_lt b (length k.known)
       (λ (lt : b < length k.known). m.below b lt ∙ ap (λ (x : Known). later x (known_at o.known b)) was)
       (λ (past : length k.known ≤ b). m.above b past ∙ was);
   loads = t.loads;

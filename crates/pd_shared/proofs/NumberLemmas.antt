@@ -57,11 +57,11 @@ numbers_in b n (s ∷ ss) h = All-cons (λ t. ForSome (number_in b t) (λ p. p <
     (λ x e. let there = gave_number b x s e in h x (omega arith))
     (numbers_in b n ss (λ x lt. h x (omega arith)))
 
-drew_is : (b x : ℕ) (d : Deeds) → drew_number b x d ≡ total (gave b x) d.sights
+pub drew_is : (b x : ℕ) (d : Deeds) → drew_number b x d ≡ total (gave b x) d.sights
 unfolding drew_number
 drew_is b x d = refl
 
-drew_below : (p : Layout) (ws : List ℕ) (views : List View) (id b x : ℕ) (v : View) (g : Good p ws views) → get_elem? views id ≡ some v → b < bindings p → 0 < drew_number b x v.deeds → x < g.limit b
+pub drew_below : (p : Layout) (ws : List ℕ) (views : List View) (id b x : ℕ) (v : View) (g : Good p ws views) → get_elem? views id ≡ some v → b < bindings p → 0 < drew_number b x v.deeds → x < g.limit b
 drew_below p ws views id b x v g at lt there = once_below_some x (g.limit b) (omega (arith, over_own (drew_number b x) v.deeds v.taken, total-at (of_all (drew_number b x)) views id v at, g.counted.drawn b x lt))
 
 -- the numbers of a seat lie below the limit

@@ -22,7 +22,8 @@ use Rattle.pd_core.proofs.Facts.{known_off_gone, known_on_gone}
 use Rattle.pd_board.specs.Journal.{Entries}
 use Rattle.pd_shared.specs.Book.{Book, known_at}
 use Rattle.pd_shared.specs.Tied.{told, act_of, toggle_of, toggle_as, known_switched, IsKnown, AreDeeds, IsTied}
-use Rattle.pd_shared.proofs.ActLemmas.{yes_or_no, not_flag, with_reply, deeds_act, tied_act, gone_there, alone_disposed, disposal_stays}
+use Rattle.pd_shared.proofs.ActLemmas.{yes_or_no, not_flag, with_reply, deeds_act, tied_act, gone_there, alone_disposed, disposal_stays, toggle_apart, toggle_says, order_toggle}
+use Rattle.pd_shared.proofs.OrderLemmas.{switched_timed}
 use Rattle.pd_shared.proofs.NumberLemmas.{numbers_low, limit_is, turned_is}
 
 by_test : (s : Bool) (k : Known) → (k ≡ knowns.Disposed → s ≡ true) → (if s then knowns.Disposed else k) ≡ knowns.Disposed → s ≡ true
@@ -49,6 +50,9 @@ switched_gone w k e = ap (λ y. known_switched y w) e ∙ both_gone (disposed w 
     both_gone true = refl
     both_gone false = refl
 
+toggle_gone : (disables : Bool) (w : ℕ) → disposed w ≡ 1 → toggle_of disables w ≡ toggles.Gone
+toggle_gone disables w e = ap (λ (s : Bool). toggle_as s (beq (off w == 1) disables) (sum_in w)) (test_is w e)
+
 pub tied_off : (p : Layout) (b w : ℕ) (v : View) (k : Book) (m : Entries) (x : Known) → b < bindings p → IsTied p v k → Found p (set_off b) v w → x ≡ known_switched (known_at k.known b) w → m ≡ with_reply k.entries (acts.Disabled b (toggle_of true w))
     → IsTied p (after p (set_off b) w v) (record k { known = slice_set k.known b x; entries = m })
 tied_off p b w v k m x lt t f later is =
@@ -56,12 +60,15 @@ tied_off p b w v k m x lt t f later is =
     let r : ActResult = acts.Disabled b (toggle_of true w) in
     tied_act p v next k m b x r lt t is t.idle refl refl refl refl
     (deeds_act v.deeds next.deeds k.entries m r t.deeds is refl (sym (append-nil v.deeds.made)) (sym (append-nil v.deeds.firsts)) (sym (append-nil v.deeds.late)) (sym (append-nil v.deeds.counts))
-    (map-append act_of v.deeds.toggles _))
+    (map-append act_of v.deeds.toggles _)
+    (order_toggle true b (toggle_of true w) k.entries.replies (λ h. toggle_gone true w (sym (ap disposed f.3) ∙ gone_there p f.0.words f.0.views f.2.0 b v k.known f.1 f.2.1 lt t.known_is (t.gone b h))))
+    (switched_timed p b w v f.0.words f.0.views f.2.0 f.1 f.2.1 lt f.3 true))
     (later ∙ switched_here w (known_at k.known b) (told (known next b)) (λ e. ap told (known_off_gone p b w v e)) (λ e. no_more v next b (disposed w == 1) e refl refl ∙ sym (t.known_is.1 b lt)))
     (λ c ne. same_known v next c (times_else c b v.found_disposed (disposed w == 1) ne) refl)
     (λ a gone. disposal_stays b k.entries.replies r (alone_disposed p f.0.words f.0.views f.2.0 b v k.entries f.1 f.2.1 t.deeds a lt
     (ap disposed f.3 ∙ eqb_is (disposed w) 1 (by_test (disposed w == 1) (known_at k.known b) (λ q. test_is w (sym (ap disposed f.3) ∙ gone_there p f.0.words f.0.views f.2.0 b v k.known f.1 f.2.1 lt t.known_is q)) (sym later ∙ gone)))))
-    (λ c ne. refl) (λ gone. later ∙ switched_gone w (known_at k.known b) gone) (λ q. absurd (cc))
+    (λ c ne. toggle_apart true b c (toggle_of true w) ne) (λ gone. later ∙ switched_gone w (known_at k.known b) gone)
+    (λ q. later ∙ ap (λ (s : Bool). if s then knowns.Disposed else known_at k.known b) (toggle_says true b (disposed w == 1) (beq (off w == 1) true) (sum_in w) q))
 
 pub tied_on : (p : Layout) (b w : ℕ) (v : View) (k : Book) (m : Entries) (x : Known) → b < bindings p → IsTied p v k → Found p (clear_off b) v w → x ≡ known_switched (known_at k.known b) w → m ≡ with_reply k.entries (acts.Enabled b (toggle_of false w))
     → IsTied p (after p (clear_off b) w v) (record k { known = slice_set k.known b x; entries = m })
@@ -70,17 +77,17 @@ tied_on p b w v k m x lt t f later is =
     let r : ActResult = acts.Enabled b (toggle_of false w) in
     tied_act p v next k m b x r lt t is t.idle refl refl refl refl
     (deeds_act v.deeds next.deeds k.entries m r t.deeds is refl (sym (append-nil v.deeds.made)) (sym (append-nil v.deeds.firsts)) (sym (append-nil v.deeds.late)) (sym (append-nil v.deeds.counts))
-    (map-append act_of v.deeds.toggles _))
+    (map-append act_of v.deeds.toggles _)
+    (order_toggle false b (toggle_of false w) k.entries.replies (λ h. toggle_gone false w (sym (ap disposed f.3) ∙ gone_there p f.0.words f.0.views f.2.0 b v k.known f.1 f.2.1 lt t.known_is (t.gone b h))))
+    (switched_timed p b w v f.0.words f.0.views f.2.0 f.1 f.2.1 lt f.3 false))
     (later ∙ switched_here w (known_at k.known b) (told (known next b)) (λ e. ap told (known_on_gone p b w v e)) (λ e. no_more v next b (disposed w == 1) e refl refl ∙ sym (t.known_is.1 b lt)))
     (λ c ne. same_known v next c (times_else c b v.found_disposed (disposed w == 1) ne) refl)
     (λ a gone. disposal_stays b k.entries.replies r (alone_disposed p f.0.words f.0.views f.2.0 b v k.entries f.1 f.2.1 t.deeds a lt
     (ap disposed f.3 ∙ eqb_is (disposed w) 1 (by_test (disposed w == 1) (known_at k.known b) (λ q. test_is w (sym (ap disposed f.3) ∙ gone_there p f.0.words f.0.views f.2.0 b v k.known f.1 f.2.1 lt t.known_is q)) (sym later ∙ gone)))))
-    (λ c ne. refl) (λ gone. later ∙ switched_gone w (known_at k.known b) gone) (λ q. absurd (cc))
+    (λ c ne. toggle_apart false b c (toggle_of false w) ne) (λ gone. later ∙ switched_gone w (known_at k.known b) gone)
+    (λ q. later ∙ ap (λ (s : Bool). if s then knowns.Disposed else known_at k.known b) (toggle_says false b (disposed w == 1) (beq (off w == 1) false) (sum_in w) q))
 
 -- ---- their answers
-
-toggle_gone : (disables : Bool) (w : ℕ) → disposed w ≡ 1 → toggle_of disables w ≡ toggles.Gone
-toggle_gone disables w e = ap (λ (s : Bool). toggle_as s (beq (off w == 1) disables) (sum_in w)) (test_is w e)
 
 pub off_gone : (p : Layout) (b w : ℕ) (v : View) (ks : List Known) → b < bindings p → IsKnown p v ks → Found p (set_off b) v w → known_at ks b ≡ knowns.Disposed → toggle_of true w ≡ toggles.Gone
 off_gone p b w v ks lt k f e = toggle_gone true w (sym (ap disposed f.3) ∙ gone_there p f.0.words f.0.views f.2.0 b v ks f.1 f.2.1 lt k e)

@@ -161,13 +161,13 @@ ends_fit p n v f = subst (λ (k : ℕ). k < 2 ^ 32) f.3 (end_fits p f.0.words f.
 -- ---- the seat after one of these steps
 
 pub tied_answered : (p : Layout) (s n word operand spare : ℕ) (v : View) (k : Book) → 0 < answer_share s v.talk → IsTied p v k → IsTied p (noted word operand n (spoke (answered s n v.talk) v)) (record k { entries = record k.entries { spare = spare } })
-tied_answered p s n word operand spare v k left t = record { idle = t.idle; known_is = t.known_is; deeds = record { sights = t.deeds.sights; befores = t.deeds.befores; made = t.deeds.made; firsts = t.deeds.firsts; late = t.deeds.late; counts = t.deeds.counts; toggles = t.deeds.toggles }; reads = reads_answered p s n v.talk k.ended k.sessions k.ends left t.reads; all_loads = t.all_loads; cleared = t.cleared; alone = t.alone; tried = t.tried; loads = t.loads }
+tied_answered p s n word operand spare v k left t = record { idle = t.idle; known_is = t.known_is; deeds = record { sights = t.deeds.sights; befores = t.deeds.befores; made = t.deeds.made; firsts = t.deeds.firsts; late = t.deeds.late; counts = t.deeds.counts; toggles = t.deeds.toggles; order = t.deeds.order; timed = t.deeds.timed }; reads = reads_answered p s n v.talk k.ended k.sessions k.ends left t.reads; all_loads = t.all_loads; cleared = t.cleared; alone = t.alone; gone = t.gone; loads = t.loads }
 
 pub tied_asked : (p : Layout) (s n word operand : ℕ) (v : View) (k : Book) (now : Reads) → s < p.sessions → now ≡ record { loads = (reads_at k.sessions s).loads + 1; last = n } → IsTied p v k → IsTied p (noted word operand n (spoke (asked s n v.talk) v)) (record k { sessions = slice_set k.sessions s now })
-tied_asked p s n word operand v k now lt is t = record { idle = t.idle; known_is = t.known_is; deeds = t.deeds; reads = reads_asked p s n v.talk k.ended k.sessions k.ends now lt is t.reads; all_loads = t.all_loads; cleared = t.cleared; alone = t.alone; tried = t.tried; loads = t.loads }
+tied_asked p s n word operand v k now lt is t = record { idle = t.idle; known_is = t.known_is; deeds = t.deeds; reads = reads_asked p s n v.talk k.ended k.sessions k.ends now lt is t.reads; all_loads = t.all_loads; cleared = t.cleared; alone = t.alone; gone = t.gone; loads = t.loads }
 
 pub tied_ended : (p : Layout) (n word operand : ℕ) (v : View) (k : Book) → k.ended ≡ false → IsTied p v k → IsTied p (noted word operand n (spoke (ended_talk v.talk) v)) (record k { ended = true })
-tied_ended p n word operand v k open_yet t = record { idle = t.idle; known_is = t.known_is; deeds = t.deeds; reads = reads_ended p v.talk k.sessions k.ends (subst (λ (b : Bool). AreReads p v.talk b k.sessions k.ends) open_yet t.reads); all_loads = t.all_loads; cleared = t.cleared; alone = t.alone; tried = t.tried; loads = t.loads }
+tied_ended p n word operand v k open_yet t = record { idle = t.idle; known_is = t.known_is; deeds = t.deeds; reads = reads_ended p v.talk k.sessions k.ends (subst (λ (b : Bool). AreReads p v.talk b k.sessions k.ends) open_yet t.reads); all_loads = t.all_loads; cleared = t.cleared; alone = t.alone; gone = t.gone; loads = t.loads }
 
 pub tied_counted : (p : Layout) (n word operand : ℕ) (v : View) (k : Book) (now : Reads) → now ≡ record { loads = k.ends.loads + 1; last = n } → IsTied p v k → IsTied p (noted word operand n (spoke (counted_ends n v.talk) v)) (record k { ends = now })
-tied_counted p n word operand v k now is t = record { idle = t.idle; known_is = t.known_is; deeds = t.deeds; reads = reads_counted p n v.talk k.ended k.sessions k.ends now is t.reads; all_loads = t.all_loads; cleared = t.cleared; alone = t.alone; tried = t.tried; loads = t.loads }
+tied_counted p n word operand v k now is t = record { idle = t.idle; known_is = t.known_is; deeds = t.deeds; reads = reads_counted p n v.talk k.ended k.sessions k.ends now is t.reads; all_loads = t.all_loads; cleared = t.cleared; alone = t.alone; gone = t.gone; loads = t.loads }

@@ -1,28 +1,33 @@
 -- Definition, which public contracts cite.
 -- What the tally of a board says, by all seats that were on it.
-use Rattle.std.specs.Prelude.{◌≡◌, ℕ, ◌+◌, ◌<◌, ◌≤◌, ◌^◌, ◌==◌, ◌&&◌, nat_lt, Bool, true, false, if◌then◌else◌, List, [], ◌∷◌, ◌++◌, length, slice_index, slice_index_or, count_by}
-use Rattle.std.specs.List.{All, filter_map}
+use Rattle.std.specs.Prelude.{◌≡◌, ℕ, ◌+◌, ◌<◌, ◌≤◌, ◌^◌, ◌==◌, ◌&&◌, nat_lt, nat_le, Bool, true, false, if◌then◌else◌, List, [], ◌∷◌, ◌++◌, length, slice_index, slice_index_or, count_by}
+use Rattle.std.specs.List.{All, Contains, filter_map, list_any}
 use Rattle.std.specs.Option.{ForSome}
 use Rattle.pd_board.specs.declared.answers.ActResult.{ActResult}
 use Rattle.pd_board.specs.declared.answers.ActResult.TheVariants as acts
 use Rattle.pd_board.specs.declared.answers.Attach.{Attach}
 use Rattle.pd_board.specs.declared.answers.Attach.TheVariants as attaches
+use Rattle.pd_board.specs.declared.answers.Toggle.TheVariants as toggles
 use Rattle.pd_board.specs.declared.answers.Sight.{Sight}
 use Rattle.pd_board.specs.declared.answers.Known.TheVariants as knowns
 use Rattle.pd_board.specs.declared.answers.State.TheVariants as states
 use Rattle.pd_board.specs.declared.answers.BindingTally.{BindingTally}
 use Rattle.pd_board.specs.Answers.{has_attach, has_attachment, has_disposal, is_disposal, disposal, TogglesUpTo}
-use Rattle.pd_board.specs.Kept.{numbers_of, IsMissed, FitsToggles}
+use Rattle.pd_board.specs.Kept.{numbers_of, IsMissed, FitsToggles, EachAfter}
 use Rattle.pd_board.specs.Tally.{state_by, no_tally}
 use Rattle.pd_core.specs.Layout.{Layout, bindings, binding_word, session_word}
 use Rattle.pd_core.specs.Words.{attached, disposed, sum_in}
+use Rattle.pd_core.specs.Talks.{ends_of}
+use Rattle.pd_core.specs.Good.{Ordered}
 use Rattle.pd_core.specs.Runs.{IsLast}
+use Rattle.pd_shared.specs.declared.token.Reads.{Reads}
 use Rattle.pd_shared.specs.declared.token.Token.{Token}
 use Rattle.pd_shared.specs.declared.sights.Sights.{Sights}
 use Rattle.pd_board.specs.Journal.{Entries}
 use Rattle.pd_shared.specs.Sitting.{number_for}
-use Rattle.pd_shared.specs.Left.{DidLeave}
-use Rattle.pd_shared.specs.Book.{known_at}
+use Rattle.pd_shared.specs.Tied.{has_gone, IsInOrder}
+use Rattle.pd_shared.specs.Left.{DidLeave, HasLearned}
+use Rattle.pd_shared.specs.Book.{known_at, reads_at}
 
 -- ---- by the last words
 
@@ -86,6 +91,40 @@ all_sights e left = all_of (λ d. d.sights) e.sights left
 abbrev pub all_replies : Entries → List Sights → List ActResult
 all_replies e left = all_of (λ d. d.replies) e.replies left
 
+-- ---- toggles that found nothing to change
+
+-- whether the answer is one of a disable of b that changed it, with a count of at least n
+abbrev pub disables_from : ℕ → ℕ → ActResult → Bool
+disables_from b n (acts.Disabled c (toggles.At m)) = c == b && nat_le n m
+disables_from b n _ = false
+
+-- whether the answer is one of an enable of b that changed it, with a count of at least n
+abbrev pub enables_from : ℕ → ℕ → ActResult → Bool
+enables_from b n (acts.Enabled c (toggles.At m)) = c == b && nat_le n m
+enables_from b n _ = false
+
+-- where the answer, which came after these of the same seat, is that of a toggle of b that found nothing to change, the answers of all
+-- seats have the toggle that made it so
+pub record HasCause (b : ℕ) (replies before : List ActResult) (r : ActResult) : Type 0 where
+  -- b was off: some disable changed it, and one that counted no less than an enable that this seat had made
+  pub disabled : r ≡ acts.Disabled b toggles.Already → list_any (disables_from b 0) replies ≡ true
+  pub disabled_since : r ≡ acts.Disabled b toggles.Already → (n : ℕ) → Contains before (acts.Enabled b (toggles.At n)) → list_any (disables_from b n) replies ≡ true
+  -- b was on: where this seat had disabled it, some enable that counted no less changed it
+  pub enabled_since : r ≡ acts.Enabled b toggles.Already → (n : ℕ) → Contains before (acts.Disabled b (toggles.At n)) → list_any (enables_from b n) replies ≡ true
+
+-- P of the answers of this seat, and of those of each of the seats that left
+abbrev pub OfEachSeat : (List ActResult → Type 0) → Entries → List Sights → Type 0
+OfEachSeat P e left = P e.replies × All (λ s. P s.journal.replies) left
+
+-- ---- what one seat says
+
+-- what a seat's answers say is disposed is so, and what it read of a session is at most the session's number of answers
+pub record FitsTally (p : Layout) (tallies : List BindingTally) (counts : List ℕ) (replies : List ActResult) (sessions : List Reads) : Type 0 where
+  pub gone : (b : ℕ) → b < bindings p → has_gone b replies ≡ true → (slice_index_or tallies b no_tally).state ≡ states.Disposed
+  pub read : (s : ℕ) → s < p.sessions → (reads_at sessions s).last ≤ slice_index counts s
+
+-- ---- all together
+
 -- the tallies and the numbers of answers are those of last words of which the rule holds with the last view
 pub record IsOfWords (p : Layout) (last : Token) (tallies : List BindingTally) (counts : List ℕ) (words : List ℕ) : Type 0 where
   pub last_is : IsLast p last.pass.view words
@@ -106,8 +145,20 @@ pub record IsClosed (p : Layout) (last : Token) (tallies : List BindingTally) (c
   -- what the last seat knows is so
   pub known_gone : (b : ℕ) → b < bindings p → known_at last.known.items b ≡ knowns.Disposed → (slice_index_or tallies b no_tally).state ≡ states.Disposed
   pub known_attached : (b : ℕ) → b < bindings p → known_at last.known.items b ≡ knowns.Attached → (slice_index_or tallies b no_tally).state ≡ states.Unattached → ⊥
+  -- what the last seat says, and each seat from which it learned, fits the tally
+  pub own : FitsTally p tallies counts last.journal.replies last.sessions.items
+  pub others : (left : List Sights) → HasLearned last left → All (λ s. FitsTally p tallies counts s.journal.replies s.sessions.items) left
+  -- what they read of ended contexts is at most how many the last seat, and those that it took in, ended
+  pub ends : IsWhole last → last.ends.last ≤ ends_of last.pass.view.talk
+  pub others_ends : IsWhole last → (left : List Sights) → HasLearned last left → All (λ s. s.ends.last ≤ ends_of last.pass.view.talk) left
   pub outcomes : IsWhole last → (left : List Sights) → DidLeave left last.pass.view.taken → (b : ℕ) → b < bindings p
       → IsOutcomeOfAll b (all_sights last.journal left) (all_replies last.journal left) (slice_index_or tallies b no_tally)
+  -- each toggle of each seat counted more than the numbers that the seat drew before it, and at most those that it drew after
+  pub timed : (left : List Sights) → DidLeave left last.pass.view.taken → All (λ d. (steps : ℕ) × Ordered d steps) (last.pass.view.deeds ∷ last.pass.view.taken)
+  -- the answers of each seat are in order, and each toggle that found nothing to change has its cause
+  pub order : (left : List Sights) → DidLeave left last.pass.view.taken → (b : ℕ) → OfEachSeat (EachAfter (IsInOrder b)) last.journal left
+  pub causes : IsWhole last → (left : List Sights) → DidLeave left last.pass.view.taken → (b : ℕ) → b < bindings p
+      → OfEachSeat (EachAfter (HasCause b (all_replies last.journal left))) last.journal left
   -- the answer numbers of a session are those below its number of answers, each once
   pub numbers : IsWhole last → (s : ℕ) → s < p.sessions → OnceBelow (slice_index counts s) (filter_map (number_for s) (last.pass.view.talk.numbers ++ last.pass.view.talk.handed))
 
@@ -122,3 +173,12 @@ CountsOnce last tallies = IsWhole last → (left : List Sights) → DidLeave lef
 -- and so does each answer number of a session, among those that all seats took
 abbrev pub AnswersOnce : Token → List ℕ → Type 0
 AnswersOnce last counts = IsWhole last → (s : ℕ) → s < length counts → OnceBelow (slice_index counts s) (filter_map (number_for s) (last.pass.view.talk.numbers ++ last.pass.view.talk.handed))
+
+-- each toggle of a seat that found nothing to change has its cause in the answers of all seats
+abbrev pub TogglesHaveCauses : Token → List BindingTally → Type 0
+TogglesHaveCauses last tallies = IsWhole last → (left : List Sights) → DidLeave left last.pass.view.taken → (b : ℕ) → b < length tallies
+    → OfEachSeat (EachAfter (HasCause b (all_replies last.journal left))) last.journal left
+
+-- what the last seat, or one that it took in, read of a session is at most its number of answers
+abbrev pub ReadsWithin : Token → List ℕ → Type 0
+ReadsWithin last counts = (s : ℕ) → s < length counts → (reads_at last.sessions.items s).last ≤ slice_index counts s

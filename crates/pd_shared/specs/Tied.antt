@@ -1,7 +1,7 @@
 -- Definition, which public contracts cite.
 -- How what a token keeps in memory goes with the view of its pass.
 use Rattle.std.specs.Prelude.{◌≡◌, ℕ, ◌<◌, ◌≤◌, ◌==◌, ◌&&◌, ◌^◌, eqb, Bool, true, false, if◌then◌else◌, List, [], ◌∷◌, length, slice_index, map, Option, Some, None}
-use Rattle.std.specs.List.{filter_map}
+use Rattle.std.specs.List.{filter_map, list_any}
 use Rattle.std.specs.Bool.{beq}
 use Rattle.pd_board.specs.declared.answers.Known.{Known}
 use Rattle.pd_board.specs.declared.answers.Known.TheVariants as knowns
@@ -16,7 +16,8 @@ use Rattle.pd_board.specs.declared.answers.Toggle.TheVariants as toggles
 use Rattle.pd_board.specs.declared.answers.ActResult.{ActResult}
 use Rattle.pd_board.specs.declared.answers.ActResult.TheVariants as acts
 use Rattle.pd_board.specs.declared.answers.Sight.{Sight}
-use Rattle.pd_board.specs.Answers.{has_dispose, has_disposal}
+use Rattle.pd_board.specs.Answers.{has_attach, has_disposal}
+use Rattle.pd_board.specs.Kept.{EachAfter}
 use Rattle.pd_core.specs.declared.view.View.{View}
 use Rattle.pd_core.specs.declared.view.Talk.{Talk}
 use Rattle.pd_core.specs.declared.view.Deeds.{Deeds}
@@ -28,6 +29,7 @@ use Rattle.pd_core.specs.Layout.{Layout, bindings}
 use Rattle.pd_core.specs.Words.{attached, disposed, off, sum_in}
 use Rattle.pd_core.specs.Counts.{total, first_is}
 use Rattle.pd_core.specs.Talks.{spent, readings, end_readings}
+use Rattle.pd_core.specs.Good.{Ordered}
 use Rattle.pd_core.specs.Views.{Known as Found, fresh, found_attached, found_disposed, known}
 use Rattle.pd_board.specs.Journal.{Entries}
 use Rattle.pd_shared.specs.declared.token.Reads.{Reads}
@@ -122,6 +124,30 @@ toggle_by (acts.Enabled b t) = Some (acts.Enabled b t)
 toggle_by (acts.Disabled b t) = Some (acts.Disabled b t)
 toggle_by _ = None
 
+-- whether the answer says that b is disposed: by this act, or before it
+abbrev pub says_gone : ℕ → ActResult → Bool
+says_gone b (acts.Disposed c _) = c == b
+says_gone b (acts.Attached c attaches.Gone) = c == b
+says_gone b (acts.Enabled c toggles.Gone) = c == b
+says_gone b (acts.Disabled c toggles.Gone) = c == b
+says_gone b _ = false
+
+-- whether one of the answers says that b is disposed
+abbrev pub has_gone : ℕ → List ActResult → Bool
+has_gone b replies = list_any (says_gone b) replies
+
+-- ---- the order of the answers of one seat
+
+-- what the answer of an act on b says, by those of the same seat before it
+pub record IsInOrder (b : ℕ) (before : List ActResult) (r : ActResult) : Type 0 where
+  -- after an attach, another one found it attached
+  pub attached : has_attach b before ≡ true → (a : Attach) → r ≡ acts.Attached b a → a ≡ attaches.Already
+  -- after an answer that says that it is disposed, an attach didn't attach it, a dispose found it disposed, and so did a toggle
+  pub not_attached : has_gone b before ≡ true → r ≡ acts.Attached b attaches.Attached → ⊥
+  pub disposed : has_gone b before ≡ true → (a : Dispose) → r ≡ acts.Disposed b a → a ≡ disposes.Already
+  pub enabled : has_gone b before ≡ true → (t : Toggle) → r ≡ acts.Enabled b t → t ≡ toggles.Gone
+  pub disabled : has_gone b before ≡ true → (t : Toggle) → r ≡ acts.Disabled b t → t ≡ toggles.Gone
+
 -- ---- whether no other pass ever stepped beside it
 
 -- whether the pass took in no other
@@ -139,7 +165,7 @@ is_alone v = eqb v.seat_share (2 ^ 32) && none_taken v.taken
 abbrev pub IsKnown : Layout → View → List Known → Type 0
 IsKnown p v known_list = (length known_list ≡ bindings p) × ((b : ℕ) → b < bindings p → known_at known_list b ≡ told (known v b))
 
--- the sights and the answers of acts are what the pass did
+-- the sights and the answers of acts are what the pass did, and each answer is one that may come after those before it
 pub record AreDeeds (d : Deeds) (e : Entries) : Type 0 where
   pub sights : e.sights ≡ map sight_of d.sights
   pub befores : e.sight_loads ≡ map before_of d.sights
@@ -148,6 +174,9 @@ pub record AreDeeds (d : Deeds) (e : Entries) : Type 0 where
   pub late : d.late ≡ filter_map late_by e.replies
   pub counts : d.counts ≡ filter_map count_by e.replies
   pub toggles : map act_of d.toggles ≡ filter_map toggle_by e.replies
+  pub order : (b : ℕ) → EachAfter (IsInOrder b) e.replies
+  -- each toggle counted more than the numbers that the pass drew before it, and at most those that it drew after
+  pub timed : (steps : ℕ) × Ordered d steps
 
 -- the reads of the words of sessions and of ended contexts
 pub record AreReads (p : Layout) (t : Talk) (ended : Bool) (sessions : List Reads) (ends : Reads) : Type 0 where
@@ -164,9 +193,9 @@ pub record AreReads (p : Layout) (t : Talk) (ended : Bool) (sessions : List Read
 abbrev pub KnowsAlone : View → List Known → List ActResult → Type 0
 KnowsAlone v known_list replies = is_alone v ≡ true → (b : ℕ) → known_at known_list b ≡ knowns.Disposed → has_disposal b replies ≡ true
 
--- a binding that this seat disposed of, or tried to, is known as disposed
-abbrev pub KnowsTried : List Known → List ActResult → Type 0
-KnowsTried known_list replies = (b : ℕ) → has_dispose b replies ≡ true → known_at known_list b ≡ knowns.Disposed
+-- a binding of which an answer of this seat says that it is disposed is known as disposed
+abbrev pub KnowsGone : List Known → List ActResult → Type 0
+KnowsGone known_list replies = (b : ℕ) → has_gone b replies ≡ true → known_at known_list b ≡ knowns.Disposed
 
 -- what the token keeps in memory is what the view of its pass knows
 pub record IsTied (p : Layout) (v : View) (k : Book) : Type 0 where
@@ -177,6 +206,6 @@ pub record IsTied (p : Layout) (v : View) (k : Book) : Type 0 where
   pub all_loads : length v.loads ≡ k.all_loads
   pub cleared : length v.cleared ≡ k.cleared
   pub alone : KnowsAlone v k.known k.entries.replies
-  -- what it disposed, or tried to, it knows as disposed
-  pub tried : KnowsTried k.known k.entries.replies
+  -- what its answers say is disposed it knows as disposed
+  pub gone : KnowsGone k.known k.entries.replies
   pub loads : (length k.loads ≡ p.nodes) × ((n : ℕ) → slice_index k.loads n ≤ k.all_loads)

@@ -24,12 +24,13 @@ pub struct Tally {
 }
 
 impl Tally {
-    ghost use Rattle.pd_shared.specs.Closed.{CountsOnce, AnswersOnce};
+    ghost use Rattle.pd_shared.specs.Closed.{CountsOnce, AnswersOnce, TogglesHaveCauses, ReadsWithin};
 
     /// How each binding ended up, by its number. It takes no memory.
     pub fn bindings(&self) -> &[BindingTally]
         ensures bindings { result.now ≡ self.now.bindings }
         ensures once { CountsOnce self.now.last.value result.now }
+        ensures causes { TogglesHaveCauses self.now.last.value result.now }
     {
         self.bindings.as_slice()
     }
@@ -38,6 +39,7 @@ impl Tally {
     pub fn answers(&self) -> &[u32]
         ensures answers { result.now ≡ self.now.answers }
         ensures once { AnswersOnce self.now.last.value result.now }
+        ensures read { ReadsWithin self.now.last.value result.now }
     {
         self.answers.as_slice()
     }

@@ -56,7 +56,7 @@ impl<'b> Seat<'b> {
     ghost use Rattle.pd_shared.specs.Tied.{none_taken};
     ghost use Rattle.pd_shared.specs.Sitting.{IsOf, standing_of};
     ghost use Rattle.pd_shared.specs.Closed.{IsWhole};
-    ghost use Rattle.pd_shared.specs.Left.{HasHanded, IsNewcomer, Leaves, IsOver, TakesIn, DidLeave};
+    ghost use Rattle.pd_shared.specs.Left.{HasHanded, IsNewcomer, Leaves, IsOver, TakesIn, DidLeave, HasLearned};
 
     /// For how many further steps there is room.
     pub fn spare(&self) -> u32
@@ -137,6 +137,7 @@ impl<'b> Seat<'b> {
         ensures over { IsOver self.entry.hub.layout result }
         ensures takes { TakesIn into.old self.entry.token into.new }
         ensures did { (left others : List Sights) → DidLeave left into.old.token.pass.view.taken → DidLeave others self.entry.token.pass.view.taken → DidLeave (left ++ result ∷ others) into.new.token.pass.view.taken }
+        ensures learned { (left others : List Sights) → HasLearned into.old.token left → HasLearned self.entry.token others → HasLearned into.new.token (left ++ result ∷ others) }
     {
         let Seat { board: _, token } = self;
         into.take_in(token)

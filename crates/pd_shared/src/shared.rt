@@ -1,5 +1,5 @@
 //! The board that seats share.
-ghost use Rattle.std.specs.Prelude.{◌≡◌, ℕ, map, replicate, IfOk};
+ghost use Rattle.std.specs.Prelude.{◌≡◌, ◌^◌, ℕ, map, replicate, IfOk};
 ghost use Rattle.pd_board.specs.declared.answers.Known.{Known};
 ghost use Rattle.pd_board.specs.Standing.{in_row};
 ghost use Rattle.pd_core.specs.Views.{first_view};
@@ -52,6 +52,7 @@ impl SharedBoard {
         ensures layout { IfOk result (λ r. r.0.core.layout ≡ record { nodes = nodes; rows = matches.now.rows; sessions = sessions; contexts = contexts }) }
         ensures of { IfOk result (λ r. IsOf r.0.core r.1) }
         ensures first { IfOk result (λ r. r.1.pass.view ≡ first_view) }
+        ensures seats { IfOk result (λ r. r.1.seats ≡ 2 ^ 32) }
         ensures new { IfOk result (λ r. IsNew matches.now nodes sessions contexts (standing_of (record { hub = r.0.core; table = r.0.table; token = r.1 }))) }
     {
         let table = copy_of(alloc, matches)?;

@@ -4,8 +4,8 @@ use Rattle.pd_board.specs.Journal.{Entries}
 use Rattle.pd_shared.specs.Sitting.{Sitting}
 use Rattle.pd_shared.specs.Tied.{AreDeeds}
 use Rattle.pd_core.specs.Tokens.{Hub}
-use Rattle.pd_shared.specs.Left.{DidLeave, IsOver}
-use Rattle.pd_shared.proofs.LeftLemmas.{did_leave}
+use Rattle.pd_shared.specs.Left.{DidLeave, HasLearned, IsOver}
+use Rattle.pd_shared.proofs.LeftLemmas.{did_leave, has_learned}
 use Rattle.pd_shared.proofs.seat.Seat.retire.Goals as goal
 
 pub returns-clause-did : goal.returns-clause-did
@@ -16,3 +16,8 @@ returns-clause-did c left others before behind =
 
 pub returns-clause-over : goal.returns-clause-over
 returns-clause-over c = subst (λ (h : Hub). IsOver h.layout c.take_in.result) c.requires c.take_in.ensures.over
+
+pub returns-clause-learned : goal.returns-clause-learned
+returns-clause-learned c left others before behind =
+    let behind_is = subst (λ (s : Sitting). HasLearned s.token others) (sym c.self.view_is) behind in
+    has_learned _ c.self.inside.token _ c.take_in.ensures.takes c.take_in.result c.take_in.ensures.leaves c.self.invariant.1.gone left others before behind_is

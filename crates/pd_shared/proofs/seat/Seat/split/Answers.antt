@@ -56,7 +56,7 @@ returns-clause-old c =
     let not_alone : is_alone (halved c.self.inside.token.pass.view) ≡ false = halved_alone p c.self.inside.token.pass.view c.self.inside.token.seats c.self.inside.token.counts.items may.0 c.self.invariant.2 in
     let here : Sitting = record { hub = c.self.inside.board.now.core; table = c.self.inside.board.now.table; token = c.self.inside.token } in
     subst (λ (s : Sitting). HasHanded s (record here { token = record here.token { pass = c.split-pass.new.p; seats = c.saturating_sub-self-inside.result } })) c.self.view_is
-    (has_handed here c.split-pass.new.p.id c.split-pass.new.p.view c.saturating_sub-self-inside.result (ap (λ (h : Holder). h.view) c.split-pass.ensures.old) not_alone)
+    (has_handed here c.split-pass.new.p.id c.split-pass.new.p.view c.saturating_sub-self-inside.result (ap (λ (h : Holder). h.view) c.split-pass.ensures.old) c.saturating_sub-self-inside.ensures not_alone)
 
 pub returns-clause-new : goal.returns-clause-new
 returns-clause-new c =
@@ -67,4 +67,4 @@ returns-clause-new c =
     subst (λ (x : List ℕ × List ℕ × List Reads). IsFirst x.0 x.1 x.2 c.token.result) (λ i. (c.in_ok-blank.ensures.counts i, c.in_ok-blank.ensures.loads i, c.in_ok-blank.ensures.sessions i)) c.token.ensures.first in
     let items : c.token.result.known.items ≡ c.self.inside.token.known.items = ap (λ (v : Vec Known Global). v.items) c.token.ensures.known ∙ (c.in_ok-known.ensures.items ∙ c.as_slice.ensures.value) in
     subst (λ (s : Sitting). IsNewcomer s next) c.self.view_is
-    (newcomer_is here next c.len.result c.len-nodes.result c.len-2.result refl refl (ap (λ (h : Holder). h.view) (c.token.ensures.pass ∙ c.split-pass.ensures.new)) items first)
+    (newcomer_is here next c.len.result c.len-nodes.result c.len-2.result refl refl (ap (λ (h : Holder). h.view) (c.token.ensures.pass ∙ c.split-pass.ensures.new)) c.token.ensures.seats items first)

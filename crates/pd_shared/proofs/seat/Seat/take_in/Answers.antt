@@ -52,7 +52,7 @@ returns-clause-takes c =
     let reads : IsMerged with_last unread (length mine.sessions.items) mine.sessions.items theirs.sessions.items c.merge_reads.new.own.items = subst (λ (x : ℕ × List Reads). IsMerged with_last unread x.0 mine.sessions.items x.1 c.merge_reads.new.own.items) (λ i. (reads_len i, c.as_slice-3.ensures.value i)) c.merge_reads.ensures in
     let here : Sitting = record { hub = c.self.inside.board.now.core; table = c.self.inside.board.now.table; token = mine } in
     subst (λ (s : Sitting). TakesIn s theirs (record here { token = record mine { pass = c.join.new.p; seats = c.saturating_add-self-inside.result; known = c.merge_known.new.own; counts = c.merge_counts.new.own; sessions = c.merge_reads.new.own; ends = c.merge_last-self-inside.result } })) c.self.view_is
-    (takes_in here theirs c.join.new.p.id c.join.new.p.view c.saturating_add-self-inside.result c.merge_known.new.own c.merge_counts.new.own c.merge_reads.new.own c.merge_last-self-inside.result view
+    (takes_in here theirs c.join.new.p.id c.join.new.p.view c.saturating_add-self-inside.result c.merge_known.new.own c.merge_counts.new.own c.merge_reads.new.own c.merge_last-self-inside.result view c.saturating_add-self-inside.ensures
     known (is_of.1.known_is.0 ∙ sym c.self.invariant.1.known_is.0) reads (is_of.1.reads.sessions_are ∙ sym c.self.invariant.1.reads.sessions_are) c.merge_last-self-inside.ensures c.self.invariant.1.reads.within is_of.1.reads.within)
 
 pub returns-clause-over : goal.returns-clause-over

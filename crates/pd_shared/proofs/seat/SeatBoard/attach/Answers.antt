@@ -12,7 +12,7 @@ use Rattle.pd_shared.specs.Book.{book_of, known_at}
 use Rattle.pd_shared.specs.Sitting.{Sitting}
 use Rattle.pd_shared.specs.Tied.{known_set, is_alone, IsKnown, AreDeeds}
 use Rattle.pd_shared.proofs.ActLemmas.{with_reply, known_read, tied_attached}
-use Rattle.pd_shared.proofs.AttachLemmas.{idle_start, first_known, first_fresh, first_number, first_reply, alone_known, alone_first_then, alone_first_when}
+use Rattle.pd_shared.proofs.AttachLemmas.{idle_start, again, first_known, first_fresh, first_number, first_reply, alone_known, alone_first_then, alone_first_when}
 use Rattle.pd_shared.proofs.HeldLemmas.{held_same}
 use Rattle.pd_shared.proofs.seat.SeatBoard.attach.Goals as goal
 
@@ -24,12 +24,15 @@ invariant_of-self c =
     let lt : c.args.b < bindings c.self.inside.board.now.core.layout = search rules in
     let tied = c.self.invariant.1 in
     let within = subst (λ n. c.args.b < n) (sym tied.known_is.0) lt in
+    let known_m = subst (λ (y : View). IsKnown c.self.inside.board.now.core.layout y c.self.inside.token.known.items) (sym c.mark_row.ensures.marked.rest) tied.known_is in
+    let deeds_m = subst (λ (y : View). AreDeeds y.deeds c.self.inside.token.journal) (sym c.mark_row.ensures.marked.rest) tied.deeds in
     let read = known_read c.self.inside.token.known.items c.args.b c.index.result.now within c.index.ensures in (
       ap (λ (h : Holder). h.id) c.set_attached-word.ensures.view ∙ (c.mark_row.ensures.id ∙ c.self.invariant.0),
       rw (c.set_attached-word.ensures.view)
           (tied_attached c.self.inside.board.now.core.layout c.args.b c.set_attached-word.result c.self.inside.token.pass.view c.mark_row.new.pass.view (book_of c.self.inside.token) c.reply.new.self c.known_attached.result lt tied c.mark_row.ensures.marked.rest c.set_attached-word.ensures.found
           (c.known_attached.ensures ∙ ap (λ (k : Known). known_set k c.set_attached-word.result) read)
-          (c.reply.ensures ∙ ap (λ (a : Attach). with_reply c.self.inside.token.journal (acts.Attached c.args.b a)) c.attach_answer-answer.ensures)),
+          (c.reply.ensures ∙ ap (λ (a : Attach). with_reply c.self.inside.token.journal (acts.Attached c.args.b a)) c.attach_answer-answer.ensures)
+          (again c.self.inside.board.now.core.layout c.args.b c.set_attached-word.result c.mark_row.new.pass.view (book_of c.self.inside.token) lt known_m deeds_m c.set_attached-word.ensures.found)),
       rw (c.set_attached-word.ensures.view) (held_same c.self.inside.board.now.core.layout c.self.inside.token.pass.view _ c.self.inside.token.seats c.self.inside.token.counts.items (ap (λ (v : View). v.seat_share) c.mark_row.ensures.marked.rest) (ap (λ (v : View). v.taken) c.mark_row.ensures.marked.rest) (ap (λ (v : View). v.deeds.counts) c.mark_row.ensures.marked.rest) c.self.invariant.2),
     )
 
@@ -102,7 +105,7 @@ returns-clause-alone_first c a =
     let same : is_alone c.mark_row.new.pass.view ≡ is_alone c.self.inside.token.pass.view = ap (λ (y : View). is_alone y) rest in
     let a' = subst (λ (s : Sitting). is_alone s.token.pass.view ≡ true) (sym c.self.view_is) a in
     rw (← c.self.view_is) (
-      (λ e. alone_first_then c.self.inside.board.now.core.layout c.args.b c.set_attached-word.result c.mark_row.new.pass.view (book_of c.self.inside.token) lt known_m deeds_m c.set_attached-word.ensures.found tied.tried (sym c.attach_answer-answer.ensures ∙ e)),
+      (λ e. alone_first_then c.self.inside.board.now.core.layout c.args.b c.set_attached-word.result c.mark_row.new.pass.view (book_of c.self.inside.token) lt known_m deeds_m c.set_attached-word.ensures.found tied.gone (sym c.attach_answer-answer.ensures ∙ e)),
       (λ h. c.attach_answer-answer.ensures ∙ alone_first_when c.self.inside.board.now.core.layout c.args.b c.set_attached-word.result c.mark_row.new.pass.view (book_of c.self.inside.token) lt known_m deeds_m c.set_attached-word.ensures.found (same ∙ a') h.0 h.1),
     )
 

@@ -43,7 +43,7 @@ invariant_of-self c =
         all_loads = t.all_loads;
         cleared = t.cleared;
         alone = t.alone;
-        tried = t.tried;
+        gone = t.gone;
         loads = (
           length-set c.load_chain-chain.new.token.loads.items c.n.inside.0 (c.index_mut.result.now + 1) ∙ t.loads.0,
           λ m. let bound = loads_low c.load_chain-chain.new.token.loads.items c.n.inside.0 c.index_mut.result.now c.self.inside.token.all_loads within is low m in omega (arith, bound, c.load_chain-chain.ensures.all_loads),
