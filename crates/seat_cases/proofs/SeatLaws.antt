@@ -39,12 +39,11 @@ all_observe (b ∷ bs) all = rw (observes b all.0) (all_observe bs all.1)
 
 pub layout_sound : (plan : Plan) (p : Program) (table : MatchTable) (nodes : ℕ) → IsSound plan → table ≡ table_of plan p → IsOver (length p.nodes) table → nodes ≡ length p.nodes
     → layout.IsSound (record { nodes = nodes; rows = table.rows; sessions = 0; contexts = 0 })
-layout_sound plan p table nodes sound is over count =
-    (
-      subst (λ (t : MatchTable). length t.rows ≤ 4096) (sym is) (rows_few plan p sound),
-      λ b k within. subst (λ n. slice_index (slice_index_or table.rows b []) k < n) (sym count) (over.within b k within),
-      over.rising,
-    )
+layout_sound plan p table nodes sound is over count = (
+  subst (λ (t : MatchTable). length t.rows ≤ 4096) (sym is) (rows_few plan p sound),
+  λ b k within. subst (λ n. slice_index (slice_index_or table.rows b []) k < n) (sym count) (over.within b k within),
+  over.rising,
+)
 
 pub first_has : (plan : Plan) (p : Program) (s : Sitting) → IsServed plan
     → IsNew (table_of plan p) (length p.nodes) (length plan.sessions) (length plan.contexts) (standing_of s) → s.token.pass.view ≡ first_view → HasForTwo plan p s

@@ -20,13 +20,7 @@ use pd_report::Report;
 use std::io::{self, BufRead, BufReader};
 
 /// Runs a case on a seat, and prints how that compares with the report of its run on a board of its own.
-fn print_way(
-    rt: &HostRuntime,
-    name: &str,
-    case: &Case,
-    report: &Report,
-    way: Way,
-) -> io::Result<()>
+fn print_way(rt: &HostRuntime, name: &str, case: &Case, report: &Report, way: Way) -> io::Result<()>
     requires served { IsServed case.now.plan }
     requires entry { 0 < length case.now.program.entries }
 {

@@ -107,11 +107,7 @@ fn sources_of<L: Library>(
 }
 
 /// The program of a plan, from its sources in the plan's order; or the first refusal.
-fn program_of(
-    alloc: Global,
-    plan: &Plan,
-    sources: &[Source],
-) -> Result<Program, Stop<LoadRefusal>>
+fn program_of(alloc: Global, plan: &Plan, sources: &[Source]) -> Result<Program, Stop<LoadRefusal>>
     requires sound { IsSound plan.now }
     requires each { length sources.now ≡ length plan.now.sources }
     requires one { length plan.now.contexts ≡ 1 }
