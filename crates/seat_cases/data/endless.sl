@@ -1,0 +1,2 @@
+function f(n) { while (n < n + 1) { n = n + 1; } }
+function main() { f(0); }

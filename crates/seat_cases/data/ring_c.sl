@@ -1,0 +1,1 @@
+function c(n) { println(n); return a(5); }

@@ -1,0 +1,2 @@
+-- For the program: no library's contract cites it.
+pub mod Seats
