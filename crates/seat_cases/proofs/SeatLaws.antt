@@ -1,5 +1,5 @@
 -- What a seat has for the context of a plan: when it is new, after attaches, after a split, and on the seat that was split off.
-use Rattle.std.proofs.Common.{◌≡◌, ℕ, ◌+◌, ◌<◌, ◌≤◌, ◌^◌, true, List, [], ◌∷◌, length, refl, ap, ◌∙◌, sym, subst, arith}
+use Rattle.std.proofs.Common.{◌≡◌, ℕ, ◌<◌, ◌≤◌, true, List, [], ◌∷◌, length, refl, ap, ◌∙◌, sym, subst, arith}
 use Rattle.std.specs.Prelude.{slice_index, slice_index_or}
 use Rattle.std.specs.List.{AllByRecursion, list_all}
 use Rattle.std.proofs.lemmas.List.{length-map}
@@ -20,7 +20,7 @@ use Rattle.pd_core.specs.Views.{first_view}
 use Rattle.pd_guest.specs.Beginning.{is_observer, IsReadyFor}
 use Rattle.pd_host.specs.Attaching.{resting, HasRoom}
 use Rattle.pd_host.proofs.RunLaws.{rows_few}
-use Rattle.pd_shared.specs.Sitting.{Sitting, Base, standing_of, base_of}
+use Rattle.pd_shared.specs.Sitting.{Sitting, Base, standing_of}
 use Rattle.pd_shared.specs.Left.{HasHanded, IsNewcomer}
 use Rattle.seat_cases.specs.Seats.{HasForTwo, OnlyAttached}
 

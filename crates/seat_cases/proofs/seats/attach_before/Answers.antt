@@ -1,6 +1,5 @@
 -- One binding more is attached.
 use Rattle.std.proofs.Common.{ap, ◌∙◌, arith}
-use Rattle.pd_shared.specs.Sitting.{standing_of}
 use Rattle.pd_host.specs.Attaching.{resting}
 use Rattle.seat_cases.proofs.seats.attach_before.Goals as goal
 

@@ -1,5 +1,5 @@
 -- The bindings before the index were attached.
-use Rattle.std.proofs.Common.{◌≡◌, ℕ, ◌≤◌, ◌+◌, length}
+use Rattle.std.proofs.Common.{◌≤◌, ◌+◌, length}
 use Rattle.pd_shared.specs.Sitting.{standing_of}
 use Rattle.seat_cases.specs.Seats.{OnlyAttached}
 use Rattle.seat_cases.proofs.seats.attach_before.Given as goal
