@@ -1,1 +1,0 @@
--- The fuel of the context is in its range, and the core of a seat's board stays.
