@@ -5,7 +5,7 @@ use Rattle.std.specs.List.{All}
 use Rattle.std.proofs.lemmas.List.{get_or_past}
 use Rattle.std.proofs.lemmas.List.Elements.{All-append}
 use Rattle.std.proofs.lemmas.Bool.{cases_lt}
-use Rattle.pd_core.specs.Layout.{Layout, IsSound, Rising}
+use Rattle.pd_core.specs.Layout.{IsSound, Rising}
 use Rattle.seat_threads.specs.Rows.{IsRow}
 
 -- the nodes are below 16, and rise

@@ -21,7 +21,7 @@ use crate::round::play_round;
 use std::io;
 
 /// How many rounds are played.
-const ROUNDS: u32 = 400;
+const ROUNDS: u32 = 100;
 
 fn main(rt: HostRuntime) -> io::Result<()> {
     let alloc = rt.alloc();

@@ -1,5 +1,5 @@
 -- At the end the list has each number below the count.
-use Rattle.std.proofs.Common.{◌≡◌, arith}
+use Rattle.std.proofs.Common.{arith}
 use Rattle.seat_threads.proofs.numbers.each_once.Goals as goal
 
 pub returns-clause-each : goal.returns-clause-each

@@ -1,5 +1,5 @@
 -- The numbers before the index rise.
-use Rattle.std.proofs.Common.{◌≡◌, ℕ, ◌+◌, ◌<◌}
+use Rattle.std.proofs.Common.{ℕ, ◌+◌, ◌<◌}
 use Rattle.std.specs.Prelude.{slice_index}
 use Rattle.seat_threads.proofs.numbers.rises.Given as goal
 

@@ -1,5 +1,4 @@
 -- One row more.
-use Rattle.std.proofs.Common.{◌≡◌, length, length-append, ap, arith, ◌∙◌}
 use Rattle.seat_threads.proofs.RowLemmas.{row_more, count_more}
 use Rattle.seat_threads.proofs.rows.table.Goals as goal
 
