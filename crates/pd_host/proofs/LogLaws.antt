@@ -20,12 +20,12 @@ use Rattle.pd_board.specs.Answers.{number_of, number_in}
 use Rattle.pd_board.specs.Kept.{disables_upto, IsMissed, FitsToggles, missed_of}
 use Rattle.pd_board.specs.Standing.{Standing}
 use Rattle.pd_board.specs.Tally.{IsOutcome}
-use Rattle.pd_record.specs.Logs.{is_of, answer_at, place_of, is_on, is_number, is_enter, stands_in, is_subject, subject_events, answers_of, entry_of, delivery}
-use Rattle.pd_record.specs.Life.{rises, numbers_of}
-use Rattle.pd_record.specs.Seen.{is_subject_at, IsSeen}
-use Rattle.pd_record.specs.Served.{IsServed}
-use Rattle.pd_record.specs.Serving.{is_in}
-use Rattle.pd_record.proofs.Lists.{list_all-weaker}
+use Rattle.pd_observed.specs.Logs.{is_of, answer_at, place_of, is_on, is_number, is_enter, stands_in, is_subject, subject_events, answers_of, entry_of, delivery}
+use Rattle.pd_observed.specs.Life.{rises, numbers_of}
+use Rattle.pd_observed.specs.Seen.{is_subject_at, IsSeen}
+use Rattle.pd_observed.specs.Served.{IsServed}
+use Rattle.pd_observed.specs.Serving.{is_in}
+use Rattle.pd_observed.proofs.Lists.{list_all-weaker}
 use Rattle.pd_report.specs.Run.{entries_from, matching_events}
 use Rattle.pd_host.proofs.Pairing.{IsEnteredAt, IsPaired}
 use Rattle.pd_host.proofs.Places.{covered, numbers_in_order, count_from, counted_up}

@@ -7,11 +7,11 @@ use Rattle.pd_board.specs.declared.answers.Drawn.TheVariants.{Off}
 use Rattle.pd_board.specs.declared.answers.Sight.{Sight}
 use Rattle.pd_board.specs.Answers.{number_of}
 use Rattle.pd_board.specs.Kept.{upto}
-use Rattle.pd_record.specs.Logs.{is_of, answer_at}
-use Rattle.pd_record.specs.Life.{rises, numbers_of}
-use Rattle.pd_record.specs.Seen.{is_before, in_order}
-use Rattle.pd_record.specs.Serving.{is_in}
-use Rattle.pd_record.proofs.Lists.{list_all-weaker, list_all-weaker_where, filter_map-same, list_all-any}
+use Rattle.pd_observed.specs.Logs.{is_of, answer_at}
+use Rattle.pd_observed.specs.Life.{rises, numbers_of}
+use Rattle.pd_observed.specs.Seen.{is_before, in_order}
+use Rattle.pd_observed.specs.Serving.{is_in}
+use Rattle.pd_observed.proofs.Lists.{list_all-weaker, list_all-weaker_where, filter_map-same, list_all-any}
 
 -- the numbers that were taken of a binding at these events
 abbrev pub numbers_at : List Sight → ℕ → List ℕ → List ℕ

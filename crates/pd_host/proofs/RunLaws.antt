@@ -24,11 +24,11 @@ use Rattle.pd_board.specs.Kept.{upto, disables_upto}
 use Rattle.pd_board.specs.Bound.{IsWithin}
 use Rattle.pd_board.specs.Standing.{Standing, IsNew}
 use Rattle.pd_board.specs.Tally.{state_by, known_in, no_tally, IsOutcome, IsTally}
-use Rattle.pd_record.specs.declared.ContextRecord.{ContextRecord}
-use Rattle.pd_record.specs.Served.{IsServed}
-use Rattle.pd_record.specs.Record.{IsRunOf, IsObserved, IsRecord}
-use Rattle.pd_guest.specs.Beginning as guest
-use Rattle.pd_guest.specs.Beginning.{fuel_at, IsReadyFor, IsOver}
+use Rattle.pd_observed.specs.declared.ContextRecord.{ContextRecord}
+use Rattle.pd_observed.specs.Served.{IsServed}
+use Rattle.pd_observed.specs.Record.{IsRunOf, IsObserved, IsRecord}
+use Rattle.pd_observing.specs.Beginning as guest
+use Rattle.pd_observing.specs.Beginning.{fuel_at, IsReadyFor, IsOver}
 use Rattle.pd_report.specs.declared.report.Report.{Report}
 use Rattle.pd_report.specs.Run as report
 use Rattle.pd_report.specs.Run.{IsObserving, ran_of, is_among, attached_by, answers_behind, sessions_behind, entries_from, matching_events, log_for, IsCounted, IsBinding, IsOnBoard, IsRun}

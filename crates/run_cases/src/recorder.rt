@@ -7,7 +7,7 @@ ghost use Rattle.run_cases.specs.Answering.{kept_from};
 
 use crate::case::{Answer, Asked, Case};
 use pd_eval::Watcher;
-use pd_guest::Heard;
+use pd_observing::Heard;
 use pd_machine::{Cause, Event, EventKind, Scene, Verdict};
 use pd_tree::Program;
 use pd_values::{NodeId, Value};

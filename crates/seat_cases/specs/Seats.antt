@@ -5,7 +5,7 @@ use Rattle.pd_tree.specs.Program.{Program}
 use Rattle.pd_plan.specs.declared.plan.Plan.{Plan}
 use Rattle.pd_core.specs.Talks.{handed_answers}
 use Rattle.pd_core.specs.Views.{handed_share}
-use Rattle.pd_guest.specs.Beginning.{IsReadyFor}
+use Rattle.pd_observing.specs.Beginning.{IsReadyFor}
 use Rattle.pd_host.specs.Attaching.{resting}
 use Rattle.pd_shared.specs.Sitting.{Sitting, standing_of, base_of}
 

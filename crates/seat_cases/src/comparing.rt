@@ -2,7 +2,7 @@
 use crate::seats::{SeatRun, Way};
 use pd_log::Entry;
 use pd_machine::{Cause, EventKind};
-use pd_record::ContextRecord;
+use pd_observed::ContextRecord;
 use pd_report::{Report, SessionRecord};
 use pd_values::{End, Items, Value};
 
