@@ -52,7 +52,7 @@ roots_below p linked i r h = ⊎_elim
     (λ (past : length p.items ≤ i). let none : (item_at p i).root ≡ None = ap (λ x. x.root) (get_or_past p.items i no_item past) in absurd (cc))
     (cases_lt i (length p.items))
 
-placed_by : (nodes : ℕ) (t : Told) → IsToldAt (λ n. n < nodes) nodes t → IsPlaced nodes t.event t.scene
+pub placed_by : (nodes : ℕ) (t : Told) → IsToldAt (λ n. n < nodes) nodes t → IsPlaced nodes t.event t.scene
 placed_by nodes t h = record { node = h.0; depth = h.1; frames = h.2 }
 
 pub meaning_placed : (p : Program) (v : Verdicts) (fuel entry : ℕ) → IsWellFormed p → All (λ t. IsPlaced (length p.nodes) t.event t.scene) (meaning_of p entry fuel v).events
