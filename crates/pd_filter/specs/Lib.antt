@@ -1,3 +1,2 @@
 -- Definitions, which public contracts cite.
 pub mod Matching
-pub mod Resolving

@@ -1,5 +1,5 @@
 -- Definition: which nodes satisfy a filter, and which nodes a binding is about.
-use Rattle.std.specs.Prelude.{◌≡◌, ℕ, ◌<◌, Bool, true, false, not, ◌&&◌, ◌||◌, nat_le, ◌==◌, List, [], ◌∷◌, map, filter, length, slice_index, slice_index_or, Option, None, Some, is_none, bytes_eq}
+use Rattle.std.specs.Prelude.{◌≡◌, ℕ, ◌<◌, Bool, true, false, not, ◌&&◌, ◌||◌, nat_le, ◌==◌, List, [], ◌∷◌, map, filter, length, slice_index, slice_index_or, is_none, bytes_eq}
 use Rattle.std.specs.List.{list_any}
 use Rattle.pd_values.specs.declared.value.Tag.{Tag}
 use Rattle.pd_tree.specs.Program.{Program, Node, node_at, has_tag}
@@ -10,7 +10,9 @@ use Rattle.pd_plan.specs.declared.plan.BindingSpec.{BindingSpec}
 use Rattle.pd_plan.specs.declared.plan.BindingSpec.TheVariants.{Observe, Break, Pause}
 use Rattle.pd_plan.specs.declared.plan.Plan.{Plan}
 use Rattle.pd_plan.specs.declared.table.MatchTable.{MatchTable}
-use Rattle.pd_filter.specs.Resolving.{all_nodes, is_statement, starts_on, resolved}
+use Rattle.pd_break.specs.declared.resolving.Resolved.{Resolved}
+use Rattle.pd_break.specs.declared.resolving.Resolved.TheVariants.{Line, Unresolved}
+use Rattle.pd_break.specs.Resolving.{all_nodes, is_statement, starts_on, resolved}
 
 -- ---- filters
 
@@ -50,9 +52,9 @@ satisfies f p n = meets_tags f (node_at p n).tags && meets_place f p (node_at p 
 -- ---- rows
 
 -- a Statement node of the source that starts on the line, where there is a line
-abbrev pub starts_at : Program → ℕ → Option ℕ → ℕ → Bool
-starts_at p source None n = false
-starts_at p source (Some line) n = starts_on p source line n
+abbrev pub starts_at : Program → ℕ → Resolved → ℕ → Bool
+starts_at p source Unresolved n = false
+starts_at p source (Line line) n = starts_on p source line n
 
 -- whether a binding is about a node: an observer is about those that satisfy its filter, a breakpoint about the Statement
 -- nodes of its source on the line to which its own is resolved, a pause about every Statement node
@@ -61,11 +63,11 @@ is_about p (Observe f) n = satisfies f p n
 is_about p (Break b) n = starts_at p b.source (resolved p b.source b.line) n
 is_about p (Pause session) n = is_statement p n
 
--- the line on which a breakpoint stops, where it has one
-abbrev pub stop_line : Program → BindingSpec → Option ℕ
-stop_line p (Observe f) = None
+-- the line on which a breakpoint stops, where it has one; nothing else has one
+abbrev pub stop_line : Program → BindingSpec → Resolved
+stop_line p (Observe f) = Unresolved
 stop_line p (Break b) = resolved p b.source b.line
-stop_line p (Pause session) = None
+stop_line p (Pause session) = Unresolved
 
 -- the nodes that a binding is about, rising
 abbrev pub row_of : Program → BindingSpec → List ℕ

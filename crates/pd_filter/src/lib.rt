@@ -2,8 +2,7 @@
 #![tactic(auto)]
 
 mod matching;
-mod resolving;
 mod satisfying;
 
-pub use matching::matches;
+pub use matching::{concerns, is_drawn_always, matches};
 pub use satisfying::sat;

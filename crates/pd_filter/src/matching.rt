@@ -2,8 +2,8 @@
 ghost use Rattle.std.specs.Prelude.{◌≡◌, ◌<◌, length, IfOk};
 ghost use Rattle.pd_filter.specs.Matching.{is_about, row_of, is_always_drawn, stop_line, table_of, IsOver};
 
-use crate::resolving::{is_on, is_stop, resolve};
 use crate::satisfying::sat;
+use pd_break::{Resolved, is_on, is_stop, resolve};
 use pd_plan::{BindingSpec, MatchTable, Plan};
 use pd_tree::Program;
 use pd_values::{Items, NodeId};
@@ -44,17 +44,18 @@ fn row(alloc: Global, binding: &BindingSpec, program: &Program) -> Result<Items<
 }
 
 // The line to which a breakpoint's own is resolved.
-fn line_of(binding: &BindingSpec, program: &Program) -> Option<u32>
+fn line_of(binding: &BindingSpec, program: &Program) -> Resolved
     ensures { result ≡ stop_line program.now binding.now }
 {
     match binding {
         BindingSpec::Break(spec) => resolve(program, spec.source, spec.line),
-        BindingSpec::Observe(_) | BindingSpec::Pause { .. } => None,
+        BindingSpec::Observe(_) | BindingSpec::Pause { .. } => Resolved::Unresolved,
     }
 }
 
-// Whether a binding is about a node; `line` is the line to which a breakpoint's own is resolved.
-fn concerns(binding: &BindingSpec, line: Option<u32>, program: &Program, n: NodeId) -> bool
+/// Whether a binding is about a node, where it is known to which line a breakpoint's own is resolved. It takes no
+/// memory.
+pub fn concerns(binding: &BindingSpec, line: Resolved, program: &Program, n: NodeId) -> bool
     requires of_the_program { n < length program.now.nodes }
     requires of_the_binding { line ≡ stop_line program.now binding.now }
     ensures { result ≡ is_about program.now binding.now n }
@@ -62,15 +63,15 @@ fn concerns(binding: &BindingSpec, line: Option<u32>, program: &Program, n: Node
     match binding {
         BindingSpec::Observe(filter) => sat(filter, program, n),
         BindingSpec::Break(spec) => match line {
-            Some(line) => is_on(program, spec.source, line, n),
-            None => false,
+            Resolved::Line(line) => is_on(program, spec.source, line, n),
+            Resolved::Unresolved => false,
         },
         BindingSpec::Pause { .. } => is_stop(program, n),
     }
 }
 
-// Whether no condition stands between a binding's node and its delivery.
-fn is_drawn_always(binding: &BindingSpec) -> bool
+/// Whether a binding is drawn at each of its nodes, as all are but breakpoints with a condition. It takes no memory.
+pub fn is_drawn_always(binding: &BindingSpec) -> bool
     ensures { result ≡ is_always_drawn binding.now }
 {
     match binding {

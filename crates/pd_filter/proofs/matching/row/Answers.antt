@@ -4,7 +4,7 @@ use Rattle.std.proofs.Common.{sym, ◌∙◌, ap}
 use Rattle.std.specs.declared.vec.Vec.{Vec}
 use Rattle.std.specs.declared.alloc.Global.{Global}
 use Rattle.pd_filter.specs.Matching.{is_about}
-use Rattle.pd_filter.proofs.Rows.{passing_more-yes, passing_more-no}
+use Rattle.pd_break.proofs.Rows.{passing_more-yes, passing_more-no}
 use Rattle.pd_filter.proofs.matching.row.Goals as goal
 use Rattle.pd_filter.proofs.matching.row.Goals.{then-concerns+in_ok-push, else-concerns}
 

@@ -1,11 +1,11 @@
 -- A line that is less than those before it is the least.
 use Rattle.std.proofs.Common.{ℕ, sym, ◌∙◌, ap}
 use Rattle.std.specs.List.{range_with_len, filter}
-use Rattle.pd_filter.specs.Resolving.{starts_from, least_line, lesser}
+use Rattle.pd_break.specs.Resolving.{starts_from, least_line, lesser}
 use Rattle.pd_tree.specs.Program.{node_at}
-use Rattle.pd_filter.proofs.Rows.{passing_more-yes, passing_more-no, least_line-more}
-use Rattle.pd_filter.proofs.resolving.resolve.Goals as goal
-use Rattle.pd_filter.proofs.resolving.resolve.Goals.{then-is_from, else-is_from}
+use Rattle.pd_break.proofs.Rows.{passing_more-yes, passing_more-no, least_line-more}
+use Rattle.pd_break.proofs.resolving.resolve.Goals as goal
+use Rattle.pd_break.proofs.resolving.resolve.Goals.{then-is_from, else-is_from}
 
 pub loop-n-preserved : goal.loop-n-preserved
 loop-n-preserved c =

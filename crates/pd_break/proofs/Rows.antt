@@ -1,8 +1,10 @@
 -- Rows and least lines over one node more.
-use Rattle.std.proofs.Common.{◌≡◌, ℕ, ◌+◌, zero, suc, List, [], ◌∷◌, ◌++◌, Bool, true, false, cond, Option, None, Some, ap, ◌∙◌, refl, arith, append-nil}
+use Rattle.std.proofs.Common.{◌≡◌, ℕ, ◌+◌, zero, suc, List, [], ◌∷◌, ◌++◌, Bool, true, false, cond, ap, ◌∙◌, refl, arith, append-nil}
 use Rattle.std.specs.List.{range_with_len, filter}
 use Rattle.pd_tree.specs.Program.{Program, node_at}
-use Rattle.pd_filter.specs.Resolving.{lesser, least_line}
+use Rattle.pd_break.specs.declared.resolving.Resolved.{Resolved}
+use Rattle.pd_break.specs.declared.resolving.Resolved.TheVariants.{Line, Unresolved}
+use Rattle.pd_break.specs.Resolving.{lesser, least_line}
 
 -- a range with one number more
 pub range_more : (a n : ℕ) → range_with_len a (suc n) ≡ range_with_len a n ++ (a + n) ∷ []
@@ -32,9 +34,9 @@ passing_more-yes test n passes = passing_more test n ∙ ap (λ b. filter test (
 pub passing_more-no : (test : ℕ → Bool) (n : ℕ) → test n ≡ false → filter test (range_with_len 0 (n + 1)) ≡ filter test (range_with_len 0 n)
 passing_more-no test n fails = passing_more test n ∙ ap (λ b. filter test (range_with_len 0 n) ++ cond b (n ∷ []) []) fails ∙ append-nil (filter test (range_with_len 0 n))
 
-lesser-swap : (a b : ℕ) (o : Option ℕ) → lesser a (lesser b o) ≡ lesser b (lesser a o)
-lesser-swap a b None = ap (λ m. Some m) (omega arith)
-lesser-swap a b (Some c) = ap (λ m. Some m) (omega arith)
+lesser-swap : (a b : ℕ) (least : Resolved) → lesser a (lesser b least) ≡ lesser b (lesser a least)
+lesser-swap a b Unresolved = ap (λ m. Line m) (omega arith)
+lesser-swap a b (Line c) = ap (λ m. Line m) (omega arith)
 
 -- the least line of one node more
 pub least_line-more : (p : Program) (ns : List ℕ) (n : ℕ) → least_line p (ns ++ n ∷ []) ≡ lesser (node_at p n).line (least_line p ns)
