@@ -36,7 +36,7 @@ observed-all plan p context n start now events r seen count i = record {
 
 -- ---- the board's answers
 
-unused : (plan : Plan) (e : ℕ) (ss : List Sight) → list_all (λ s. not (s.event == e)) ss ≡ true → filter_map (used_up_by plan e) ss ≡ []
+pub unused : (plan : Plan) (e : ℕ) (ss : List Sight) → list_all (λ s. not (s.event == e)) ss ≡ true → filter_map (used_up_by plan e) ss ≡ []
 unused plan e [] h = refl
 unused plan e (s ∷ ss) h =
     let parts = and_parts (not (s.event == e)) (list_all (λ x. not (x.event == e)) ss) h in
@@ -47,7 +47,7 @@ unused plan e (s ∷ ss) h =
     is_not true k = cc
     is_not false k = refl
 
-undone : (e : ℕ) (done : List (ℕ × ActResult)) → list_all (λ a. not (a.0 == e)) done ≡ true → filter (λ a. a.0 == e) done ≡ []
+pub undone : (e : ℕ) (done : List (ℕ × ActResult)) → list_all (λ a. not (a.0 == e)) done ≡ true → filter (λ a. a.0 == e) done ≡ []
 undone e [] h = refl
 undone e (a ∷ rest) h =
     let parts = and_parts (not (a.0 == e)) (list_all (λ x. not (x.0 == e)) rest) h in
@@ -84,6 +84,17 @@ flat-same f g r same (t ∷ ts) h =
     flat_map-append f (t ∷ []) ts ∙ ap (λ x. x ++ flat_map f ts) (flat-one f t ∙ same t parts.0 ∙ sym (flat-one g t))
     ∙ ap (λ x. flat_map g (t ∷ []) ++ x) (flat-same f g r same ts parts.1) ∙ sym (flat_map-append g (t ∷ []) ts)
 
+-- what the events before number n add stays, whatever is seen and done from n on
+pub owed_of-later : (plan : Plan) (seen new : List Sight) (stops more : List Suspension) (ts : List Told) (n : ℕ)
+    → list_all (λ u. nat_lt u.event.number n) ts ≡ true
+    → list_all (λ s. nat_le n s.event) new ≡ true → list_all (λ a. nat_le n a.0) (acts_of more) ≡ true
+    → owed_of plan (seen ++ new) (stops ++ more) ts ≡ owed_of plan seen stops ts
+owed_of-later plan seen new stops more ts n below h k =
+    flat-same (λ u. owed_at plan (seen ++ new) (stops ++ more) u.event.number) (λ u. owed_at plan seen stops u.event.number) (λ u. nat_lt u.event.number n)
+    (λ u e. owed_at-later plan seen new stops more u.event.number
+    (list_all-weaker (λ s. nat_le n s.event) (λ s. not (s.event == u.event.number)) (λ s m. later_event u.event.number n s.event e m) new h)
+    (list_all-weaker (λ a. nat_le n a.0) (λ a. not (a.0 == u.event.number)) (λ a m. later_event u.event.number n a.0 e m) (acts_of more) k)) ts below
+
 -- an event n adds the disposals of what it used up, and what its acts were answered; what was seen and done there stands behind the rest
 pub owed_of-next : (plan : Plan) (seen new : List Sight) (stops more : List Suspension) (ts : List Told) (t : Told) (n : ℕ)
     → list_all (λ u. nat_lt u.event.number n) ts ≡ true
@@ -92,13 +103,9 @@ pub owed_of-next : (plan : Plan) (seen new : List Sight) (stops more : List Susp
     ≡ owed_of plan seen stops ts ++ owed_at plan (seen ++ new) (stops ++ more) t.event.number
 owed_of-next plan seen new stops more ts t n below h k =
     let after : Told → List Owed = λ u. owed_at plan (seen ++ new) (stops ++ more) u.event.number in
-    let before : Told → List Owed = λ u. owed_at plan seen stops u.event.number in
     flat_map-append after ts (t ∷ [])
-    ∙ ap (λ x. x ++ flat_map after (t ∷ [])) (flat-same after before (λ u. nat_lt u.event.number n)
-    (λ u e. owed_at-later plan seen new stops more u.event.number
-    (list_all-weaker (λ s. nat_le n s.event) (λ s. not (s.event == u.event.number)) (λ s m. later_event u.event.number n s.event e m) new h)
-    (list_all-weaker (λ a. nat_le n a.0) (λ a. not (a.0 == u.event.number)) (λ a m. later_event u.event.number n a.0 e m) (acts_of more) k)) ts below)
-    ∙ ap (λ x. flat_map before ts ++ x) (flat-one after t)
+    ∙ ap (λ x. x ++ flat_map after (t ∷ [])) (owed_of-later plan seen new stops more ts n below h k)
+    ∙ ap (λ x. owed_of plan seen stops ts ++ x) (flat-one after t)
 
 -- ---- verdicts
 

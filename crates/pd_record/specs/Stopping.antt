@@ -1,6 +1,7 @@
 -- For the code's proofs: no public contract needs it.
 -- How far the suspensions of a context are known: whatever is seen and replied later, they are these so far.
-use Rattle.std.specs.Prelude.{◌≡◌, ℕ, ◌<◌, ◌≤◌, List, [], ◌∷◌, ◌++◌, map, length}
+use Rattle.std.specs.Prelude.{◌≡◌, ℕ, ◌<◌, ◌≤◌, ◌==◌, Bool, List, [], ◌∷◌, ◌++◌, map, length, slice_get, Option, None, Some}
+use Rattle.std.specs.List.{list_all}
 use Rattle.pd_tree.specs.Program.{Program}
 use Rattle.pd_machine.specs.Events.{Told}
 use Rattle.pd_plan.specs.declared.plan.Plan.{Plan}
@@ -8,7 +9,7 @@ use Rattle.pd_board.specs.declared.answers.Drawn.{Drawn}
 use Rattle.pd_board.specs.declared.answers.Sight.{Sight}
 use Rattle.pd_suspend.specs.declared.suspension.Suspension.{Suspension}
 use Rattle.pd_suspend.specs.declared.suspension.Reason.{Reason}
-use Rattle.pd_suspend.specs.Stops.{Setting, Answered, answered_to, reasons_at, suspension, stops_at, stops_of}
+use Rattle.pd_suspend.specs.Stops.{Setting, Answered, answered_to, hit_by, reasons_at, suspension, stops_at, stops_of}
 use Rattle.pd_record.specs.Logs.{answer_at}
 
 -- the setting in which these suspensions were answered as they are, and the later ones are answered so
@@ -34,3 +35,11 @@ reasons_by plan p context ts seen stops t s = reasons_at (setting_with plan p co
 -- the suspension of a session for these reasons after these suspensions, with what it was answered
 abbrev pub stop_by : Plan → Program → ℕ → List Sight → List Suspension → Told → ℕ → List Reason → Answered → Suspension
 stop_by plan p context seen stops t s rs given = suspension (setting_with plan p context (answer_at seen) stops []) t s (length stops) rs given
+
+-- the hit of a session in what was seen, where there is one
+abbrev pub hit_in : Plan → Program → ℕ → Told → Sight → Option Reason
+hit_in plan p s t x = elim (slice_get plan.bindings x.binding) [ None ↦ None | Some spec ↦ hit_by p s t x.binding spec x.drawn ]
+
+-- whether all of this was seen at event n
+abbrev pub are_at : ℕ → List Sight → Bool
+are_at n seen = list_all (λ x. x.event == n) seen
