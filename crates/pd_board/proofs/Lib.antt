@@ -5,3 +5,4 @@ pub mod KeptLemmas
 pub mod TellLemmas
 pub mod PlainLemmas
 pub mod TallyLemmas
+mod Turns

@@ -3,6 +3,8 @@
 use Rattle.std.specs.Prelude.{ℕ, ◌<◌, ◌≤◌, ◌==◌, ◌&&◌, Bool, true, false, if◌then◌else◌, List, Option, Some, None}
 use Rattle.std.specs.Option.{ForSome}
 use Rattle.std.specs.List.{All, list_any}
+use Rattle.pd_plan.specs.declared.plan.Act.{Act}
+use Rattle.pd_plan.specs.declared.plan.Act.TheVariants as asked
 use Rattle.pd_board.specs.declared.answers.Known.{Known}
 use Rattle.pd_board.specs.declared.answers.Known.TheVariants as knowns
 use Rattle.pd_board.specs.declared.answers.Drawn.{Drawn}
@@ -50,6 +52,14 @@ abbrev pub NumbersBelow : ℕ → ℕ → List Sight → Type 0
 NumbersBelow b n sights = All (λ s. ForSome (number_in b s) (λ p. p < n)) sights
 
 -- ---- answers of acts
+
+-- whether the answer is one of this act: of the same kind, and of its binding
+abbrev pub is_result_of : Act → ActResult → Bool
+is_result_of (asked.Attach b) (acts.Attached c r) = c == b
+is_result_of (asked.Dispose b) (acts.Disposed c r) = c == b
+is_result_of (asked.Enable b) (acts.Enabled c r) = c == b
+is_result_of (asked.Disable b) (acts.Disabled c r) = c == b
+is_result_of _ _ = false
 
 -- whether the answer is one of an attach of b
 abbrev pub is_attach : ℕ → ActResult → Bool

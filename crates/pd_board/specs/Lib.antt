@@ -1,9 +1,11 @@
--- Definitions, which public contracts cite: Bits, Chain, Answers, Standing, Kept, Bound, Plain and Tally.
--- For the proofs, but for a few words that `standing_of` uses: NodeBits, Life, Journal and Sessions.
+-- Definitions, which public contracts cite: Bits, Chain, Answers, Order, Standing, Reading, Kept, Bound, NodeBits, Plain and Tally.
+-- For the proofs, but for a few words that `standing_of` uses: Life, Journal and Sessions.
 pub mod Bits
 pub mod Chain
 pub mod Answers
+pub mod Order
 pub mod Standing
+pub mod Reading
 pub mod NodeBits
 pub mod Life
 pub mod Journal

@@ -1,4 +1,4 @@
--- For the code's proofs: no public contract needs it.
+-- `stands` is a definition, which a board's contracts cite; the rest is for proofs.
 -- The bits that nodes have.
 use Rattle.std.specs.Prelude.{◌≡◌, ℕ, ◌+◌, ◌*◌, ◌/◌, ◌%◌, ◌==◌, ◌&&◌, nat_lt, Bool, List, slice_index}
 use Rattle.std.specs.Int.{bit_at}

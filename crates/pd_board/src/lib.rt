@@ -9,6 +9,7 @@ mod journal;
 mod life;
 mod plain;
 mod session;
+mod waiting;
 
 pub use answers::{
     ActResult, Attach, BindingTally, Dispose, Drawn, Known, Passed, Sight, State, Tally, Toggle,
@@ -17,3 +18,4 @@ pub use board::Board;
 pub use chain::Chain;
 pub use journal::Journal;
 pub use plain::PlainBoard;
+pub use waiting::{Waited, await_answers};

@@ -1,5 +1,5 @@
 //! The board of one thread.
-ghost use Rattle.std.specs.Prelude.{◌≡◌, ℕ, ◌+◌, ◌<◌, ◌≤◌, ◌^◌, ◌↔◌, ◌==◌, ◌&&◌, not, false, if◌then◌else◌, IfOk, IsTrue, length, slice_index, vec_len};
+ghost use Rattle.std.specs.Prelude.{◌≡◌, ℕ, ◌+◌, ◌<◌, ◌≤◌, ◌^◌, ◌↔◌, ◌==◌, ◌&&◌, not, true, false, if◌then◌else◌, Some, IfOk, IsTrue, length, slice_index, vec_len};
 ghost use Rattle.pd_board.specs.Bound.{IsWithin, OnlyInRows, LiveStand};
 ghost use Rattle.pd_board.specs.Kept.{TellsAll};
 ghost use Rattle.pd_board.specs.Sessions.{IsRead, HasShares};
@@ -195,7 +195,9 @@ fn copy_of(alloc: Global, table: &MatchTable) -> Result<MatchTable, AllocError>
 
 impl Board for PlainBoard {
     ghost use Rattle.pd_board.specs.Plain.{standing_of};
-    ghost use Rattle.pd_board.specs.Standing.{bindings};
+    ghost use Rattle.pd_board.specs.Chain.{has};
+    ghost use Rattle.pd_board.specs.Answers.{known_after_load};
+    ghost use Rattle.pd_board.specs.Standing.{bindings, matches, KnowsByItself};
     ghost use Rattle.pd_board.specs.Kept.{upto};
     ghost use Rattle.pd_board.specs.NodeBits.{stands};
 
@@ -209,7 +211,22 @@ impl Board for PlainBoard {
         self.journal.reserve(steps)
     }
 
-    fn chain(&mut self, n: NodeId) -> Chain {
+    fn chain(&mut self, n: NodeId) -> Chain
+        requires node { n < (standing_of self.old).nodes }
+        requires room { (standing_of self.old).all_loads + 1 < 2 ^ 32 }
+        // On a board of one thread it gives the bits of the node, all of them, and changes none.
+        ensures bits { (b : ℕ) → has result b ≡ stands self.old.bits n b }
+        ensures kept { self.new.bits ≡ self.old.bits }
+        ensures matching { (b : ℕ) → has result b ≡ true → matches (standing_of self.old) b n ≡ true }
+        ensures held { (b : ℕ) → (standing_of self.new).held b ≡ has result b }
+        ensures due { (b : ℕ) → (standing_of self.new).due b ≡ has result b }
+        ensures last_node { (standing_of self.new).last_node ≡ Some n }
+        ensures known { (b : ℕ) → (standing_of self.new).known b ≡ known_after_load (matches (standing_of self.old) b n) (has result b) ((standing_of self.old).known b) }
+        ensures alone { KnowsByItself (standing_of self.new) }
+        ensures loads { (m : ℕ) → (standing_of self.new).loads m ≡ (standing_of self.old).loads m + (if m == n then 1 else 0) }
+        ensures all_loads { (standing_of self.new).all_loads ≡ (standing_of self.old).all_loads + 1 }
+        ensures rest { standing_of self.new ≡ record (standing_of self.old) { held = (standing_of self.new).held; due = (standing_of self.new).due; last_node = (standing_of self.new).last_node; known = (standing_of self.new).known; loads = (standing_of self.new).loads; all_loads = (standing_of self.new).all_loads } }
+    {
         let chain = self.bits.chain(n.0);
         self.loads[n.0 as usize] += 1;
         self.all_loads += 1;

@@ -1,11 +1,14 @@
-//! A binding's log of one context: its entries, and the pairing of an activation's end with its Enter.
+//! A binding's log of one context: its entries, the pairing of an activation's end with its Enter, and the merging of
+//! the logs of several contexts.
 #![tactic(auto)]
 
-ghost use Rattle.std.specs.Prelude.{ℕ, ◌<◌, ◌^◌, length, MatchOption};
+ghost use Rattle.std.specs.Prelude.{ℕ, ◌<◌, ◌^◌, length, MatchOption, IfOk};
 ghost use Rattle.pd_log.specs.Pairing.{IsByEvent, IsEnterOf, IsPartner};
+ghost use Rattle.pd_log.specs.Merging.{entries_in, PlacesDiffer, IsMerged};
 
 use pd_machine::EventKind;
 use pd_values::NodeId;
+use std::alloc::{AllocError, Global};
 
 /// One delivery: the context, the event's number there, the number of the Enter of the same activation, the
 /// place in the binding's own numbering, what happened, and the node.
@@ -48,4 +51,18 @@ fn enter_of(log: &[Entry], event: u32) -> Option<u32>
         },
         Err(_) => None,
     }
+}
+
+/// The entries of all logs, by place: those of one binding in several contexts as one log. Condition: no two of them
+/// have one place. The only error is `AllocError`, where memory runs out.
+pub fn merge(alloc: Global, logs: Vec<Vec<Entry>>) -> Result<Vec<Entry>, AllocError>
+    requires differ { PlacesDiffer (entries_in logs.items) }
+    ensures { IfOk result (λ merged. IsMerged (entries_in logs.items) merged.items) }
+{
+    let mut entries = Vec::new(alloc);
+    for mut log in logs {
+        entries.append(&mut log)?;
+    }
+    entries.sort_unstable_by_key(|entry| entry.place);
+    Ok(entries)
 }

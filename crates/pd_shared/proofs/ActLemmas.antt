@@ -37,7 +37,8 @@ use Rattle.pd_core.proofs.Whole.{whole_total}
 use Rattle.pd_core.proofs.Facts.{known_disposed_of, known_set_gone, known_set as attached_known}
 use Rattle.pd_board.specs.Journal.{Entries}
 use Rattle.pd_shared.specs.Book.{Book, known_at}
-use Rattle.pd_shared.specs.Tied.{told, act_as, act_of, toggle_as, dispose_of, attach_as, attach_of, known_set, made_by, first_by, late_by, count_by, toggle_by, says_gone, has_gone, IsInOrder, none_taken, is_alone, IsKnown, AreDeeds, KnowsAlone, AreReads, KnowsGone, sight_of, before_of, IsTied}
+use Rattle.pd_shared.specs.Tied.{told, act_as, act_of, toggle_as, dispose_of, attach_as, attach_of, known_set, made_by, first_by, late_by, count_by, toggle_by, none_taken, is_alone, IsKnown, AreDeeds, KnowsAlone, AreReads, KnowsGone, sight_of, before_of, IsTied}
+use Rattle.pd_board.specs.Order.{says_gone, has_gone, IsInOrder}
 
 -- ---- tests of a flag
 

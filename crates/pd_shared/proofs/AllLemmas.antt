@@ -31,7 +31,8 @@ use Rattle.pd_shared.specs.declared.sights.Sights.{Sights}
 use Rattle.pd_board.specs.Journal.{Entries}
 use Rattle.pd_shared.specs.Tied.{sight_of, drawn_of, act_of, act_as, toggle_as, toggle_of, made_by, first_by, late_by, count_by, toggle_by, AreDeeds}
 use Rattle.pd_shared.specs.Left.{DidLeave}
-use Rattle.pd_shared.specs.Closed.{all_of, is_first}
+use Rattle.pd_shared.specs.Closed.{all_of}
+use Rattle.pd_board.specs.Order.{is_first}
 use Rattle.pd_shared.proofs.NumberLemmas.{off_fits}
 
 -- ---- sums

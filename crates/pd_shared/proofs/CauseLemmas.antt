@@ -21,7 +21,7 @@ use Rattle.pd_board.specs.Journal.{Entries}
 use Rattle.pd_shared.specs.declared.sights.Sights.{Sights}
 use Rattle.pd_shared.specs.Tied.{act_of, act_as, toggle_as, toggle_of, toggle_by, AreDeeds}
 use Rattle.pd_shared.specs.Left.{DidLeave}
-use Rattle.pd_shared.specs.Closed.{disables_from, enables_from}
+use Rattle.pd_board.specs.Order.{disables_from, enables_from}
 use Rattle.pd_shared.proofs.ActLemmas.{not_flag}
 use Rattle.pd_shared.proofs.NumberLemmas.{off_fits, turned_word}
 use Rattle.pd_shared.proofs.AllLemmas.{total_same, map_total, filter_total, upto_by, weight_none, turned_off, turned_on, only_toggles}

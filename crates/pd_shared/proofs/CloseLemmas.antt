@@ -40,11 +40,12 @@ use Rattle.pd_shared.specs.declared.token.Token.{Token}
 use Rattle.pd_shared.specs.declared.sights.Sights.{Sights}
 use Rattle.pd_board.specs.Journal.{Entries}
 use Rattle.pd_shared.specs.Book.{book_of, known_at, reads_at}
-use Rattle.pd_shared.specs.Tied.{IsInOrder, AreDeeds, AreReads, IsTied}
+use Rattle.pd_shared.specs.Tied.{AreDeeds, AreReads, IsTied}
+use Rattle.pd_board.specs.Order.{IsInOrder, OnceBelow, is_first, disables_from, enables_from, HasCause}
 use Rattle.pd_shared.specs.Held.{IsHeld}
 use Rattle.pd_shared.specs.Left.{DidLeave}
 use Rattle.pd_shared.specs.Sitting.{number_for}
-use Rattle.pd_shared.specs.Closed.{tally_by, AreTallies, AreNumbers, OnceBelow, is_first, disables_from, enables_from, HasCause, OfEachSeat, IsOutcomeOfAll, all_sights, all_replies, IsClosed, CountsOnce, AnswersOnce, TogglesHaveCauses, ReadsWithin}
+use Rattle.pd_shared.specs.Closed.{tally_by, AreTallies, AreNumbers, OfEachSeat, IsOutcomeOfAll, all_sights, all_replies, IsClosed, CountsOnce, AnswersOnce, TogglesHaveCauses, ReadsWithin}
 use Rattle.std.proofs.Math.Logic.{∥∥₁_elim}
 use Rattle.std.specs.Coded.{coded_ℕ, coded_bool, le_prop}
 use base.Stored.{Coded-set}

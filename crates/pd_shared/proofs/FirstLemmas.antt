@@ -13,7 +13,8 @@ use Rattle.pd_board.specs.Journal.{Entries}
 use Rattle.pd_shared.specs.declared.token.Reads.{Reads}
 use Rattle.pd_shared.specs.declared.token.Token.{Token}
 use Rattle.pd_shared.specs.Book.{book_of, known_at, reads_at, unread}
-use Rattle.pd_shared.specs.Tied.{told, has_gone, is_alone, IsKnown, AreDeeds, IsTied}
+use Rattle.pd_shared.specs.Tied.{told, is_alone, IsKnown, AreDeeds, IsTied}
+use Rattle.pd_board.specs.Order.{has_gone}
 use Rattle.pd_shared.specs.Held.{IsHeld}
 use Rattle.pd_shared.proofs.HeldLemmas.{held_first}
 use Rattle.pd_shared.specs.First.{IsFirst}

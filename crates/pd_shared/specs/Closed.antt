@@ -1,19 +1,16 @@
 -- Definition, which public contracts cite.
 -- What the tally of a board says, by all seats that were on it.
-use Rattle.std.specs.Prelude.{◌≡◌, ℕ, ◌+◌, ◌<◌, ◌≤◌, ◌^◌, ◌==◌, ◌&&◌, nat_lt, nat_le, Bool, true, false, if◌then◌else◌, List, [], ◌∷◌, ◌++◌, length, slice_index, slice_index_or, count_by}
-use Rattle.std.specs.List.{All, Contains, filter_map, list_any}
+use Rattle.std.specs.Prelude.{◌≡◌, ℕ, ◌+◌, ◌<◌, ◌≤◌, ◌^◌, ◌==◌, Bool, true, if◌then◌else◌, List, [], ◌∷◌, ◌++◌, length, slice_index, slice_index_or, count_by}
+use Rattle.std.specs.List.{All, filter_map}
 use Rattle.std.specs.Option.{ForSome}
 use Rattle.pd_board.specs.declared.answers.ActResult.{ActResult}
-use Rattle.pd_board.specs.declared.answers.ActResult.TheVariants as acts
-use Rattle.pd_board.specs.declared.answers.Attach.{Attach}
-use Rattle.pd_board.specs.declared.answers.Attach.TheVariants as attaches
-use Rattle.pd_board.specs.declared.answers.Toggle.TheVariants as toggles
 use Rattle.pd_board.specs.declared.answers.Sight.{Sight}
 use Rattle.pd_board.specs.declared.answers.Known.TheVariants as knowns
 use Rattle.pd_board.specs.declared.answers.State.TheVariants as states
 use Rattle.pd_board.specs.declared.answers.BindingTally.{BindingTally}
 use Rattle.pd_board.specs.Answers.{has_attach, has_attachment, has_disposal, is_disposal, disposal, TogglesUpTo}
 use Rattle.pd_board.specs.Kept.{numbers_of, IsMissed, FitsToggles, EachAfter}
+use Rattle.pd_board.specs.Order.{has_gone, IsInOrder, is_first, HasCause, OnceBelow}
 use Rattle.pd_board.specs.Tally.{state_by, no_tally}
 use Rattle.pd_core.specs.Layout.{Layout, bindings, binding_word, session_word}
 use Rattle.pd_core.specs.Words.{attached, disposed, sum_in}
@@ -25,7 +22,6 @@ use Rattle.pd_shared.specs.declared.token.Token.{Token}
 use Rattle.pd_shared.specs.declared.sights.Sights.{Sights}
 use Rattle.pd_board.specs.Journal.{Entries}
 use Rattle.pd_shared.specs.Sitting.{number_for}
-use Rattle.pd_shared.specs.Tied.{has_gone, IsInOrder}
 use Rattle.pd_shared.specs.Left.{DidLeave, HasLearned}
 use Rattle.pd_shared.specs.Book.{known_at, reads_at}
 
@@ -46,20 +42,6 @@ pub record AreNumbers (words : List ℕ) (first k : ℕ) (numbers : List ℕ) : 
   pub each : (s : ℕ) → s < k → slice_index numbers s ≡ slice_index words (first + s)
 
 -- ---- by what all seats did
-
--- each number below n stands in the list once, and no other does
-abbrev pub OnceBelow : ℕ → List ℕ → Type 0
-OnceBelow n xs = (x : ℕ) → count_by (λ y. y == x) xs ≡ (if nat_lt x n then 1 else 0)
-
--- an answer of an attach of the binding that no attach came before
-abbrev pub is_first_answer : Attach → Bool
-is_first_answer attaches.Already = false
-is_first_answer _ = true
-
--- whether the answer is one of an attach of b before which none had been tried
-abbrev pub is_first : ℕ → ActResult → Bool
-is_first b (acts.Attached c a) = c == b && is_first_answer a
-is_first b _ = false
 
 -- the tally of a binding, by the sights and the answers of acts of all seats
 pub record IsOutcomeOfAll (b : ℕ) (sights : List Sight) (replies : List ActResult) (t : BindingTally) : Type 0 where
@@ -90,27 +72,6 @@ all_sights e left = all_of (λ d. d.sights) e.sights left
 -- all answers of acts: those of this seat, and those of the seats that left
 abbrev pub all_replies : Entries → List Sights → List ActResult
 all_replies e left = all_of (λ d. d.replies) e.replies left
-
--- ---- toggles that found nothing to change
-
--- whether the answer is one of a disable of b that changed it, with a count of at least n
-abbrev pub disables_from : ℕ → ℕ → ActResult → Bool
-disables_from b n (acts.Disabled c (toggles.At m)) = c == b && nat_le n m
-disables_from b n _ = false
-
--- whether the answer is one of an enable of b that changed it, with a count of at least n
-abbrev pub enables_from : ℕ → ℕ → ActResult → Bool
-enables_from b n (acts.Enabled c (toggles.At m)) = c == b && nat_le n m
-enables_from b n _ = false
-
--- where the answer, which came after these of the same seat, is that of a toggle of b that found nothing to change, the answers of all
--- seats have the toggle that made it so
-pub record HasCause (b : ℕ) (replies before : List ActResult) (r : ActResult) : Type 0 where
-  -- b was off: some disable changed it, and one that counted no less than an enable that this seat had made
-  pub disabled : r ≡ acts.Disabled b toggles.Already → list_any (disables_from b 0) replies ≡ true
-  pub disabled_since : r ≡ acts.Disabled b toggles.Already → (n : ℕ) → Contains before (acts.Enabled b (toggles.At n)) → list_any (disables_from b n) replies ≡ true
-  -- b was on: where this seat had disabled it, some enable that counted no less changed it
-  pub enabled_since : r ≡ acts.Enabled b toggles.Already → (n : ℕ) → Contains before (acts.Disabled b (toggles.At n)) → list_any (enables_from b n) replies ≡ true
 
 -- P of the answers of this seat, and of those of each of the seats that left
 abbrev pub OfEachSeat : (List ActResult → Type 0) → Entries → List Sights → Type 0

@@ -1,7 +1,7 @@
 -- Definition, which public contracts cite.
 -- How what a token keeps in memory goes with the view of its pass.
 use Rattle.std.specs.Prelude.{◌≡◌, ℕ, ◌<◌, ◌≤◌, ◌==◌, ◌&&◌, ◌^◌, eqb, Bool, true, false, if◌then◌else◌, List, [], ◌∷◌, length, slice_index, map, Option, Some, None}
-use Rattle.std.specs.List.{filter_map, list_any}
+use Rattle.std.specs.List.{filter_map}
 use Rattle.std.specs.Bool.{beq}
 use Rattle.pd_board.specs.declared.answers.Known.{Known}
 use Rattle.pd_board.specs.declared.answers.Known.TheVariants as knowns
@@ -16,8 +16,9 @@ use Rattle.pd_board.specs.declared.answers.Toggle.TheVariants as toggles
 use Rattle.pd_board.specs.declared.answers.ActResult.{ActResult}
 use Rattle.pd_board.specs.declared.answers.ActResult.TheVariants as acts
 use Rattle.pd_board.specs.declared.answers.Sight.{Sight}
-use Rattle.pd_board.specs.Answers.{has_attach, has_disposal}
+use Rattle.pd_board.specs.Answers.{has_disposal}
 use Rattle.pd_board.specs.Kept.{EachAfter}
+use Rattle.pd_board.specs.Order.{has_gone, IsInOrder}
 use Rattle.pd_core.specs.declared.view.View.{View}
 use Rattle.pd_core.specs.declared.view.Talk.{Talk}
 use Rattle.pd_core.specs.declared.view.Deeds.{Deeds}
@@ -123,30 +124,6 @@ abbrev pub toggle_by : ActResult → Option ActResult
 toggle_by (acts.Enabled b t) = Some (acts.Enabled b t)
 toggle_by (acts.Disabled b t) = Some (acts.Disabled b t)
 toggle_by _ = None
-
--- whether the answer says that b is disposed: by this act, or before it
-abbrev pub says_gone : ℕ → ActResult → Bool
-says_gone b (acts.Disposed c _) = c == b
-says_gone b (acts.Attached c attaches.Gone) = c == b
-says_gone b (acts.Enabled c toggles.Gone) = c == b
-says_gone b (acts.Disabled c toggles.Gone) = c == b
-says_gone b _ = false
-
--- whether one of the answers says that b is disposed
-abbrev pub has_gone : ℕ → List ActResult → Bool
-has_gone b replies = list_any (says_gone b) replies
-
--- ---- the order of the answers of one seat
-
--- what the answer of an act on b says, by those of the same seat before it
-pub record IsInOrder (b : ℕ) (before : List ActResult) (r : ActResult) : Type 0 where
-  -- after an attach, another one found it attached
-  pub attached : has_attach b before ≡ true → (a : Attach) → r ≡ acts.Attached b a → a ≡ attaches.Already
-  -- after an answer that says that it is disposed, an attach didn't attach it, a dispose found it disposed, and so did a toggle
-  pub not_attached : has_gone b before ≡ true → r ≡ acts.Attached b attaches.Attached → ⊥
-  pub disposed : has_gone b before ≡ true → (a : Dispose) → r ≡ acts.Disposed b a → a ≡ disposes.Already
-  pub enabled : has_gone b before ≡ true → (t : Toggle) → r ≡ acts.Enabled b t → t ≡ toggles.Gone
-  pub disabled : has_gone b before ≡ true → (t : Toggle) → r ≡ acts.Disabled b t → t ≡ toggles.Gone
 
 -- ---- whether no other pass ever stepped beside it
 
