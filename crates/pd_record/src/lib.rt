@@ -1,0 +1,2 @@
+//! What the record of a context is: its run, the logs, what was seen, and its suspensions.
+#![tactic(auto)]

@@ -1,0 +1,4 @@
+pub mod Stepping
+pub mod Stopping
+pub mod Following
+pub mod Scripts
