@@ -20,8 +20,8 @@ fn push_number(text: &mut String, before: &str, number: u64) -> Result<(), Alloc
     text.push_str(buffer.format(number))
 }
 
-// A value as it is shown, where `names` are those of the items.
-fn push_value(text: &mut String, names: &[Text], value: &Value) -> Result<(), AllocError>
+/// A value as it is shown, where `names` are those of the items.
+pub(crate) fn push_value(text: &mut String, names: &[Text], value: &Value) -> Result<(), AllocError>
     ensures { OnOk result (string_bytes text.new ≡ string_bytes text.old ++ show names.now value.now) }
 {
     match value {
@@ -70,7 +70,7 @@ pub(crate) fn push_end(text: &mut String, names: &[Text], end: &End) -> Result<(
     }
 }
 
-fn kind_name(kind: &EventKind) -> &'static str
+pub(crate) fn kind_name(kind: &EventKind) -> &'static str
     ensures { result.now ≡ kind_text kind.now }
 {
     match kind {
@@ -91,7 +91,7 @@ fn push_position(text: &mut String, program: &Program, node: NodeId) -> Result<(
     push_number(text, ":", column as u64)
 }
 
-fn push_cause(text: &mut String, cause: Cause) -> Result<(), AllocError>
+pub(crate) fn push_cause(text: &mut String, cause: Cause) -> Result<(), AllocError>
     ensures { OnOk result (string_bytes text.new ≡ string_bytes text.old ++ cause_text cause) }
 {
     match cause {

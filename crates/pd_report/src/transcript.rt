@@ -40,8 +40,8 @@ fn push_output(text: &mut String, output: &str) -> Result<(), AllocError>
     Ok(())
 }
 
-// The name of a source, by its number.
-fn source_name(plan: &Plan, source: u32) -> &str
+/// The name of a source, by its number.
+pub(crate) fn source_name(plan: &Plan, source: u32) -> &str
     ensures { result.now ≡ source_name (slice_get plan.now.sources source) }
 {
     match plan.sources.get(source as usize) {
@@ -98,7 +98,7 @@ fn push_contexts(
     Ok(())
 }
 
-fn attach_name(answer: Attach) -> &'static str
+pub(crate) fn attach_name(answer: Attach) -> &'static str
     ensures { result.now ≡ attach_name answer }
 {
     match answer {
@@ -120,8 +120,8 @@ fn push_before(text: &mut String, before: &[ActResult]) -> Result<(), AllocError
     Ok(())
 }
 
-// How many answers of a session were taken.
-fn answers_of(tally: &Tally, session: usize) -> u32
+/// How many answers of a session were taken.
+pub(crate) fn answers_of(tally: &Tally, session: usize) -> u32
     ensures { result ≡ slice_index tally.now.answers session }
 {
     match tally.answers.get(session) {
@@ -167,7 +167,7 @@ fn kind_name(binding: &BindingSpec) -> &'static str
     }
 }
 
-fn state_name(state: State) -> &'static str
+pub(crate) fn state_name(state: State) -> &'static str
     ensures { result.now ≡ state_name state }
 {
     match state {
@@ -177,8 +177,8 @@ fn state_name(state: State) -> &'static str
     }
 }
 
-// How a binding ended up, and its count.
-fn tally_of(tally: &Tally, binding: usize) -> BindingTally
+/// How a binding ended up, and its count.
+pub(crate) fn tally_of(tally: &Tally, binding: usize) -> BindingTally
     ensures { result ≡ slice_index_or tally.now.bindings binding no_tally }
 {
     match tally.bindings.get(binding) {
@@ -190,8 +190,8 @@ fn tally_of(tally: &Tally, binding: usize) -> BindingTally
     }
 }
 
-// The log of a binding in a context.
-fn log_of(context: &ContextRecord, binding: usize) -> &[Entry]
+/// The log of a binding in a context.
+pub(crate) fn log_of(context: &ContextRecord, binding: usize) -> &[Entry]
     ensures { result.now ≡ slice_index_or context.now.logs binding [] }
 {
     match context.logs.get(binding) {

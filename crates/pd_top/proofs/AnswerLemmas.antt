@@ -4,18 +4,17 @@ use Rattle.std.specs.Prelude.{◌⊎◌}
 use Rattle.pd_plan.specs.declared.plan.Plan.{Plan}
 use Rattle.pd_tree.specs.Program.{Program}
 use Rattle.pd_report.specs.declared.report.Report.{Report}
-use Rattle.pd_top.specs.declared.words.Command.{Command}
-use Rattle.pd_top.specs.declared.words.Command.TheVariants.{Trace, Run, Check}
-use Rattle.pd_top.specs.declared.words.WordFault.{WordFault}
-use Rattle.pd_top.specs.declared.words.WordFault.{WordFault}
+use Rattle.pd_words.specs.declared.asked.Command.{Command}
+use Rattle.pd_words.specs.declared.asked.Command.TheVariants.{Trace, Run, Check}
+use Rattle.pd_words.specs.declared.asked.WordFault.{WordFault}
 use Rattle.pd_top.specs.declared.outcome.Unwritten.TheVariants as unwritten
 use Rattle.pd_top.specs.declared.outcome.Outcome.{Outcome}
 use Rattle.pd_top.specs.declared.outcome.Outcome.TheVariants.{Ran, Checked, Usage, Unreadable, TooLong, PlanRefused, SourceRefused, SinkFailed, Memory}
-use Rattle.pd_top.specs.Words.{file_of, on_file, command_named, command_of}
+use Rattle.pd_words.specs.Words.{command_of}
 use Rattle.pd_top.specs.Files.{IsContent}
 use Rattle.pd_top.specs.Causes.{Cause, too_long, plan_refused, source_refused, accepted, IsCause}
 use Rattle.pd_top.specs.Answers.{Reading, files_read, Writing, IsTextOf, IsWhole, IsDueTo, IsReason, Tells, IsAnswer, IsDecided, is_ran}
-use Rattle.pd_top.specs.Stops.{StopsFile, StopsCommand, StopsWords, StopsAccepting}
+use Rattle.pd_top.specs.Stops.{StopsWords, StopsAccepting}
 use Rattle.pd_top.proofs.GivenLemmas.{cause_within}
 use Rattle.pd_top.proofs.CauseLemmas.{Agrees, one_cause}
 
@@ -26,12 +25,12 @@ words_reason reading (Usage fault) stops = stops
 words_reason reading Memory stops = tt
 words_reason reading outcome stops = absurd stops
 
--- a command without a file
-pub named_stop : (words : List (List ℕ)) (make : List ℕ → Command) (asked : Result Command WordFault) (outcome : Outcome) → asked ≡ on_file make (file_of words)
-    → StopsFile words outcome → StopsCommand asked outcome
-named_stop words make asked (Usage fault) is stops = is ∙ ap (on_file make) stops
-named_stop words make asked Memory is stops = (make stops.0, is ∙ ap (on_file make) stops.1)
-named_stop words make asked outcome is stops = absurd stops
+-- words that are no command are told so, where memory doesn't run out
+pub words_usage : (words : List (List ℕ)) (outcome : Outcome) (fault : WordFault) → StopsWords words outcome → command_of words ≡ Err fault
+    → (outcome ≡ Usage fault) ⊎ (outcome ≡ Memory)
+words_usage words (Usage other) fault stops is = let both : ◌≡◌ {A = Result Command WordFault} (Err other) (Err fault) = sym stops ∙ is in inl (cc)
+words_usage words Memory fault stops is = inr refl
+words_usage words outcome fault stops is = absurd stops
 
 pub accepting_reason : (reading : Reading) (command : Command) (outcome : Outcome) → command_of reading.words ≡ Ok command
     → StopsAccepting (files_read reading) command reading.before reading.after reading.last outcome → IsReason reading outcome
@@ -56,7 +55,7 @@ agreed command (too_long a) (too_long b) outcome agree answer = answer ∙ ap To
 agreed command (plan_refused a) (plan_refused b) outcome agree answer = answer ∙ ap PlanRefused agree
 agreed command (source_refused a) (source_refused b) outcome agree answer = answer ∙ ap SourceRefused agree
 agreed (Trace file) (accepted p a) (accepted q b) outcome agree answer = answer
-agreed (Run file) (accepted p a) (accepted q b) outcome agree answer = answer
+agreed (Run words) (accepted p a) (accepted q b) outcome agree answer = answer
 agreed (Check file) (accepted p a) (accepted q b) outcome agree answer = answer
 agreed command x y outcome agree answer = absurd agree
 
@@ -74,13 +73,13 @@ decided_by reading outcome command other x y content asked cause answer tells al
 ran_answer : (command : Command) (plan : Plan) (program : Program) (report : Report) (text : List ℕ)
     → IsTextOf command plan program (unwritten.Ran report) text → IsAnswer command (accepted plan program) (Ran report)
 ran_answer (Trace file) plan program report text is = refl
-ran_answer (Run file) plan program report text is = refl
+ran_answer (Run words) plan program report text is = refl
 ran_answer (Check file) plan program report text is = absurd is
 
 checked_answer : (command : Command) (plan : Plan) (program : Program) (text : List ℕ)
     → IsTextOf command plan program unwritten.Checked text → IsAnswer command (accepted plan program) Checked
 checked_answer (Trace file) plan program text is = absurd is
-checked_answer (Run file) plan program text is = absurd is
+checked_answer (Run words) plan program text is = absurd is
 checked_answer (Check file) plan program text is = refl
 
 pub decided : (reading : Reading) (writing : Writing) (outcome : Outcome) → Tells reading writing outcome → IsDecided reading writing outcome

@@ -16,8 +16,9 @@ use Rattle.pd_load.specs.Tables.{IsText}
 use Rattle.pd_load.specs.Loading.{IsLoaded, IsRefused}
 use Rattle.pd_load.proofs.Exclusive.{loaded_not_refused}
 use Rattle.pd_top.proofs.RefusalLemmas.{one_refusal}
-use Rattle.pd_top.specs.declared.words.Command.{Command}
-use Rattle.pd_top.specs.declared.words.Command.TheVariants.{Trace, Run, Check}
+use Rattle.pd_words.specs.declared.asked.Command.{Command}
+use Rattle.pd_words.specs.declared.asked.Command.TheVariants.{Trace, Run, Check}
+use Rattle.pd_words.specs.Fuel.{with_fuel}
 use Rattle.pd_top.specs.Files.{Files, IsContent, IsShort, IsLong, AreSources, IsReachedAmong}
 use Rattle.pd_top.specs.Causes.{plan_file, IsPlanRead, IsPlanOf, IsReached, IsFirstNotText, IsFirstRefusal, Cause, too_long, plan_refused, source_refused, accepted, IsCause}
 
@@ -73,15 +74,17 @@ module _ (f : List ℕ → Option (List ℕ)) where
 
   one_plan : (command : Command) (p q : Plan) → IsPlanOf held command p → IsPlanOf held command q → p ≡ q
   one_plan (Trace file) p q x y = x ∙ sym y
-  one_plan (Run file) p q x y = let same : ◌≡◌ {A = Read Plan} (Ok p) (Ok q) = one_read file (Ok p) (Ok q) x y in cc
+  one_plan (Run words) p q x y =
+      let both : ◌≡◌ {A = Read Plan} (Ok x.0) (Ok y.0) = one_read words.plan (Ok x.0) (Ok y.0) x.1 y.1 in
+      let same : x.0 ≡ y.0 = cc in x.2 ∙ ap (with_fuel words.fuel) same ∙ sym y.2
   one_plan (Check file) p q x y = let same : ◌≡◌ {A = Read Plan} (Ok p) (Ok q) = one_read file (Ok p) (Ok q) x y in cc
 
   plan_or_refusal : (command : Command) (p : Plan) (r : PlanRefusal) (file : List ℕ) → IsPlanOf held command p → plan_file command ≡ Some file
       → IsPlanRead held file (Err r) → ⊥
   plan_or_refusal (Trace name) p r file x is y = cc
-  plan_or_refusal (Run name) p r file x is y =
-      let same : name ≡ file = cc in
-      let both : ◌≡◌ {A = Read Plan} (Ok p) (Err r) = one_read file (Ok p) (Err r) (subst (λ n. IsPlanRead held n (Ok p)) same x) y in cc
+  plan_or_refusal (Run words) p r file x is y =
+      let same : words.plan ≡ file = cc in
+      let both : ◌≡◌ {A = Read Plan} (Ok x.0) (Err r) = one_read file (Ok x.0) (Err r) (subst (λ n. IsPlanRead held n (Ok x.0)) same x.1) y in cc
   plan_or_refusal (Check name) p r file x is y =
       let same : name ≡ file = cc in
       let both : ◌≡◌ {A = Read Plan} (Ok p) (Err r) = one_read file (Ok p) (Err r) (subst (λ n. IsPlanRead held n (Ok p)) same x) y in cc
@@ -89,8 +92,8 @@ module _ (f : List ℕ → Option (List ℕ)) where
   -- the file of a plan is short
   plan_not_long : (command : Command) (p : Plan) (file : List ℕ) → IsPlanOf held command p → plan_file command ≡ Some file → IsLong held file → ⊥
   plan_not_long (Trace name) p file x is long = cc
-  plan_not_long (Run name) p file x is long =
-      let same : name ≡ file = cc in not_both file x.bytes (subst (λ n. IsShort held n x.bytes) same x.short) long
+  plan_not_long (Run words) p file x is long =
+      let same : words.plan ≡ file = cc in not_both file x.1.bytes (subst (λ n. IsShort held n x.1.bytes) same x.1.short) long
   plan_not_long (Check name) p file x is long =
       let same : name ≡ file = cc in not_both file x.bytes (subst (λ n. IsShort held n x.bytes) same x.short) long
 

@@ -8,8 +8,8 @@ use Rattle.pd_sections.specs.Written.{Written}
 use Rattle.pd_plan.specs.declared.plan.SourceSpec.{SourceSpec}
 use Rattle.pd_plan.specs.declared.plan.Plan.{Plan}
 use Rattle.pd_plan_json.specs.Reading.{Read}
-use Rattle.pd_top.specs.declared.words.Command.{Command}
-use Rattle.pd_top.specs.declared.words.Command.TheVariants.{Trace, Run, Check}
+use Rattle.pd_words.specs.declared.asked.Command.{Command}
+use Rattle.pd_words.specs.declared.asked.Command.TheVariants.{Trace, Run, Check}
 use Rattle.pd_top.specs.Files.{Files, Held, IsContent, IsGrown, IsAdded, IsRead, IsShort, IsLong, AreSources, IsReachedAmong}
 use Rattle.pd_top.specs.Causes.{IsPlanRead, IsPlanOf, IsReached, Cause, too_long, plan_refused, source_refused, accepted, IsCause}
 
@@ -73,7 +73,7 @@ module _ (P Q : Files) (within : Within P Q) where
 
   pub plan_within : (command : Command) (plan : Plan) → IsPlanOf P command plan → IsPlanOf Q command plan
   plan_within (Trace file) plan is = is
-  plan_within (Run file) plan is = plan_read_within file (Ok plan) is
+  plan_within (Run words) plan is = (is.0, plan_read_within words.plan (Ok is.0) is.1, is.2)
   plan_within (Check file) plan is = plan_read_within file (Ok plan) is
 
   pub reached_within : (command : Command) (file : List ℕ) → IsReached P command file → IsReached Q command file

@@ -1,12 +1,16 @@
 -- The plans that are run: `trace`'s is served, and what is served only observes.
-use Rattle.std.proofs.Common.{◌≡◌, ◌≤◌, ◌∙◌, ℕ, List, [], ◌∷◌, length, refl, ap, subst, sym, arith, true, false, Bool}
+use Rattle.std.proofs.Common.{◌≡◌, ◌<◌, ◌≤◌, ◌∙◌, ℕ, suc, Option, None, Some, map, List, [], ◌∷◌, length, refl, ap, subst, sym, arith, true, false, Bool}
+use Rattle.std.specs.Prelude.{IfSome}
 use Rattle.std.specs.List.{AllByRecursion, list_all}
 use Rattle.pd_plan.specs.declared.plan.BindingSpec.{BindingSpec}
 use Rattle.pd_plan.specs.declared.plan.BindingSpec.TheVariants.{Observe, Break, Pause}
 use Rattle.pd_plan.specs.declared.plan.Script.{Script}
 use Rattle.pd_plan.specs.declared.plan.Plan.{Plan}
-use Rattle.pd_plan.specs.Sound.{IsFrom, ListFits, IsSound}
+use Rattle.pd_plan.specs.declared.plan.ContextSpec.{ContextSpec}
+use Rattle.pd_plan.specs.Sound.{IsFrom, ContextFits, ListFits, IsSound}
 use Rattle.pd_plan_json.specs.Served.{Observes, OnlyAttaches, IsServed}
+use Rattle.pd_words.specs.Words.{IsFuel}
+use Rattle.pd_words.specs.Fuel.{context_with, with_fuel}
 use Rattle.pd_report.specs.Run.{is_observer, only_attaches, IsObserving}
 use Rattle.pd_top.specs.Plans.{trace_plan}
 
@@ -46,6 +50,45 @@ trace_served name = record {
   context = refl;
   bindings = (tt, tt);
   sessions = (record { actions = refl; answers = refl }, tt);
+}
+
+-- ---- the fuel that is asked for
+
+fuel_length : (fuel : ℕ) (cs : List ContextSpec) → length (map (context_with fuel) cs) ≡ length cs
+fuel_length fuel [] = refl
+fuel_length fuel (c ∷ cs) = ap suc (fuel_length fuel cs)
+
+fuel_fits : (fuel : ℕ) → IsFuel fuel → (cs : List ContextSpec) → AllByRecursion ContextFits (map (context_with fuel) cs)
+fuel_fits fuel is [] = tt
+fuel_fits fuel is (c ∷ cs) = (record { fuel = is }, fuel_fits fuel is cs)
+
+fuel_refers : (count fuel : ℕ) (cs : List ContextSpec) → AllByRecursion (λ c. c.source < count) cs
+    → AllByRecursion (λ c. c.source < count) (map (context_with fuel) cs)
+fuel_refers count fuel [] all = tt
+fuel_refers count fuel (c ∷ cs) all = (all.0, fuel_refers count fuel cs all.1)
+
+-- a plan that is served is served with another fuel
+pub fuel_served : (plan : Plan) (fuel : Option ℕ) → IfSome fuel IsFuel → IsServed plan → IsServed (with_fuel fuel plan)
+fuel_served plan None is served = served
+fuel_served plan (Some fuel) is served = record {
+  sound = record {
+    fits = record {
+      sources = served.sound.fits.sources;
+      exports = served.sound.fits.exports;
+      contexts = record { len = subst (IsFrom 1 16) (sym (fuel_length fuel plan.contexts)) served.sound.fits.contexts.len; all = fuel_fits fuel is plan.contexts };
+      bindings = served.sound.fits.bindings;
+      sessions = served.sound.fits.sessions;
+    };
+    refers = record {
+      exports = served.sound.refers.exports;
+      contexts = fuel_refers (length plan.sources) fuel plan.contexts served.sound.refers.contexts;
+      bindings = served.sound.refers.bindings;
+      sessions = served.sound.refers.sessions;
+    };
+  };
+  context = fuel_length fuel plan.contexts ∙ served.context;
+  bindings = served.bindings;
+  sessions = served.sessions;
 }
 
 -- ---- what is served only observes

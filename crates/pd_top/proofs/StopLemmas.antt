@@ -8,7 +8,7 @@ use Rattle.pd_plan.specs.declared.plan.SourceSpec.{SourceSpec}
 use Rattle.pd_plan.specs.declared.plan.Plan.{Plan}
 use Rattle.pd_load.specs.declared.refusal.LoadRefusal.{LoadRefusal}
 use Rattle.pd_load.specs.Tables.{IsText}
-use Rattle.pd_top.specs.declared.words.Command.{Command}
+use Rattle.pd_words.specs.declared.asked.Command.{Command}
 use Rattle.pd_top.specs.declared.outcome.Outcome.{Outcome}
 use Rattle.pd_top.specs.declared.outcome.Outcome.TheVariants.{Unreadable, TooLong, PlanRefused, Memory}
 use Rattle.pd_top.specs.Files.{Files, IsFault, IsLong, AreSources}

@@ -19,16 +19,17 @@ use Rattle.pd_load.specs.declared.refusal.LoadCause.TheVariants.{Spelling, NoSuc
 use Rattle.pd_report.specs.declared.report.Report.{Report}
 use Rattle.pd_report.specs.Lines.{joined}
 use Rattle.pd_report.specs.Run.{IsRun}
-use Rattle.pd_report.specs.Transcript.{text_of, check_line}
-use Rattle.pd_top.specs.declared.words.Command.{Command}
-use Rattle.pd_top.specs.declared.words.Command.TheVariants.{Trace, Run, Check}
-use Rattle.pd_top.specs.declared.words.WordFault.{WordFault}
-use Rattle.pd_top.specs.declared.words.WordFault.TheVariants.{NoCommand, UnknownCommand, Refused as WordsRefused}
+use Rattle.pd_report.specs.Transcript.{AreByPlace, text_of, check_line}
+use Rattle.pd_report.specs.Json.{json_of}
+use Rattle.pd_words.specs.declared.asked.Command.{Command}
+use Rattle.pd_words.specs.declared.asked.Command.TheVariants.{Trace, Run, Check}
+use Rattle.pd_words.specs.declared.asked.WordFault.{WordFault}
+use Rattle.pd_words.specs.declared.asked.WordFault.TheVariants.{NoCommand, UnknownCommand, Refused as WordsRefused}
+use Rattle.pd_words.specs.Words.{command_of}
 use Rattle.pd_top.specs.declared.outcome.Unwritten.{Unwritten}
 use Rattle.pd_top.specs.declared.outcome.Unwritten.TheVariants as unwritten
 use Rattle.pd_top.specs.declared.outcome.Outcome.{Outcome}
 use Rattle.pd_top.specs.declared.outcome.Outcome.TheVariants.{Ran, Checked, Usage, Unreadable, TooLong, PlanRefused, SourceRefused, SinkFailed, Memory}
-use Rattle.pd_top.specs.Words.{command_of}
 use Rattle.pd_top.specs.Files.{Files, Held, IsContent, IsRead, IsFault}
 use Rattle.pd_top.specs.Causes.{Cause, too_long, plan_refused, source_refused, accepted, IsReached, IsCause}
 
@@ -98,13 +99,20 @@ pub record IsWrittenInPart (writing : Writing) (bytes : List ℕ) : Type 0 where
 
 -- ---- texts
 
+-- A report of the plan's run, with its transcript as text or as JSON. Its logs stand in the order of events and in that of places alike, so
+-- `merged` asks for the same text.
+abbrev pub IsTranscript : Bool → Plan → Program → Unwritten → List ℕ → Type 0
+IsTranscript json plan program (unwritten.Ran report) text =
+    IsRun plan program report × AreByPlace report × (text ≡ (if json then json_of plan program report else text_of plan program report))
+IsTranscript json plan program _ text = ⊥
+
 -- what the command answers for this plan and program, with its whole text: `trace` and `run` a report of the plan's run, `check` the
 -- line that counts
 abbrev pub IsTextOf : Command → Plan → Program → Unwritten → List ℕ → Type 0
-IsTextOf (Trace file) plan program (unwritten.Ran report) text = IsRun plan program report × (text ≡ text_of plan program report)
-IsTextOf (Run file) plan program (unwritten.Ran report) text = IsRun plan program report × (text ≡ text_of plan program report)
+IsTextOf (Trace file) plan program answer text = IsTranscript false plan program answer text
+IsTextOf (Run words) plan program answer text = IsTranscript words.json plan program answer text
 IsTextOf (Check file) plan program unwritten.Checked text = text ≡ check_line plan program
-IsTextOf _ plan program _ text = ⊥
+IsTextOf (Check file) plan program _ text = ⊥
 
 -- the words are a command whose plan and sources are accepted, and this is its answer with its whole text
 pub record IsWhole (reading : Reading) (answer : Unwritten) (text : List ℕ) : Type 0 where

@@ -12,8 +12,10 @@ use Rattle.pd_load.specs.declared.refusal.LoadRefusal.{LoadRefusal}
 use Rattle.pd_load.specs.declared.refusal.LoadCause.TheVariants.{NotUtf8}
 use Rattle.pd_load.specs.Tables.{IsText}
 use Rattle.pd_load.specs.Loading.{IsLoaded, IsRefused}
-use Rattle.pd_top.specs.declared.words.Command.{Command}
-use Rattle.pd_top.specs.declared.words.Command.TheVariants.{Trace, Run, Check}
+use Rattle.pd_words.specs.declared.asked.RunWords.{RunWords}
+use Rattle.pd_words.specs.declared.asked.Command.{Command}
+use Rattle.pd_words.specs.declared.asked.Command.TheVariants.{Trace, Run, Check}
+use Rattle.pd_words.specs.Fuel.{with_fuel}
 use Rattle.pd_top.specs.Plans.{trace_plan}
 use Rattle.pd_top.specs.Files.{Files, IsShort, IsLong, AreSources, IsReachedAmong}
 
@@ -22,7 +24,7 @@ use Rattle.pd_top.specs.Files.{Files, IsShort, IsLong, AreSources, IsReachedAmon
 -- the file of the plan; `trace` has none
 abbrev pub plan_file : Command → Option (List ℕ)
 plan_file (Trace file) = None
-plan_file (Run file) = Some file
+plan_file (Run words) = Some words.plan
 plan_file (Check file) = Some file
 
 -- what the bytes of the plan's file are: a plan, or the first broken rule
@@ -31,10 +33,14 @@ pub record IsPlanRead (files : Files) (file : List ℕ) (read : Read Plan) : Typ
   pub short : IsShort files file bytes
   pub read_is : plan_at bytes ≡ read
 
+-- the plan that `run` runs: the one in its file, with the fuel that is asked for
+abbrev pub IsRunPlan : Files → RunWords → Plan → Type 0
+IsRunPlan files words plan = (read : Plan) × IsPlanRead files words.plan (Ok read) × (plan ≡ with_fuel words.fuel read)
+
 -- the plan that the command is about
 abbrev pub IsPlanOf : Files → Command → Plan → Type 0
 IsPlanOf files (Trace file) plan = plan ≡ trace_plan file
-IsPlanOf files (Run file) plan = IsPlanRead files file (Ok plan)
+IsPlanOf files (Run words) plan = IsRunPlan files words plan
 IsPlanOf files (Check file) plan = IsPlanRead files file (Ok plan)
 
 -- ---- the files in their order: that of the plan, then the sources of the plan

@@ -7,31 +7,20 @@ use Rattle.pd_sections.specs.Written.{Written}
 use Rattle.pd_plan.specs.declared.plan.SourceSpec.{SourceSpec}
 use Rattle.pd_plan.specs.declared.plan.Plan.{Plan}
 use Rattle.pd_load.specs.declared.refusal.LoadRefusal.{LoadRefusal}
-use Rattle.pd_top.specs.declared.words.Command.{Command}
-use Rattle.pd_top.specs.declared.words.WordFault.{WordFault}
+use Rattle.pd_words.specs.declared.asked.Command.{Command}
+use Rattle.pd_words.specs.Words.{command_of}
 use Rattle.pd_top.specs.declared.outcome.Outcome.{Outcome}
 use Rattle.pd_top.specs.declared.outcome.Outcome.TheVariants.{Usage, Unreadable, TooLong, PlanRefused, SourceRefused, Memory}
-use Rattle.pd_top.specs.Words.{file_of, command_of}
 use Rattle.pd_top.specs.Files.{Files, IsFault, IsLong, IsReachedAmong}
 use Rattle.pd_top.specs.Causes.{IsPlanRead, IsReached, IsNotText, IsFirstNotText, IsFirstRefusal, IsCause, too_long, plan_refused, source_refused}
 
 -- ---- words
 
--- what stops the reading of the file's name
-abbrev pub StopsFile : List (List ℕ) → Outcome → Type 0
-StopsFile words (Usage fault) = file_of words ≡ Err fault
-StopsFile words Memory = (file : List ℕ) × (file_of words ≡ Ok file)
-StopsFile words _ = ⊥
-
--- what stops the reading of a command, where the words ask for this
-abbrev pub StopsCommand : Result Command WordFault → Outcome → Type 0
-StopsCommand asked (Usage fault) = asked ≡ Err fault
-StopsCommand asked Memory = (command : Command) × (asked ≡ Ok command)
-StopsCommand asked _ = ⊥
-
 -- what stops the reading of the words
 abbrev pub StopsWords : List (List ℕ) → Outcome → Type 0
-StopsWords words outcome = StopsCommand (command_of words) outcome
+StopsWords words (Usage fault) = command_of words ≡ Err fault
+StopsWords words Memory = Unit {0}
+StopsWords words _ = ⊥
 
 -- ---- files; the library had so many faults before, has so many after, and this is the last one's name
 

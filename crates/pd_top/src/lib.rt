@@ -7,9 +7,8 @@ mod loading;
 mod outcome;
 mod plans;
 mod top;
-mod words;
 
 pub use outcome::{Outcome, Unwritten};
 pub use pd_load::{LoadCause, LoadRefusal};
+pub use pd_words::{Command, RunWords, WordFault};
 pub use top::run;
-pub use words::{Command, WordFault};

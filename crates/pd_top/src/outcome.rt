@@ -2,12 +2,12 @@
 ghost use Rattle.std.specs.Prelude.{◌≡◌, ◌++◌, IfOk, OnOk, string_bytes};
 ghost use Rattle.pd_top.specs.Answers.{is_done, report_status, usage_message, plan_rule_name, rule_name, cause_name, cause_place, refusal_message};
 
-use crate::words::WordFault;
 use pd_load::{LoadCause, LoadRefusal};
 use pd_plan::{PlanRefusal, PlanRule};
 use pd_report::Report;
 use pd_sections::Rule;
 use pd_values::{End, Text};
+use pd_words::WordFault;
 use std::alloc::{AllocError, AllocFailed, Global};
 
 /// The answer that was to be given where its text couldn't be written whole.

@@ -1,18 +1,19 @@
 //! The top call.
-ghost use Rattle.std.specs.Prelude.{◌≡◌, ◌≤◌, ◌<◌, ℕ, true, false, Err, length, IfOk, IfErr, OnOk, OnErr};
+ghost use Rattle.std.specs.Prelude.{◌≡◌, ◌≤◌, ◌<◌, ◌⊎◌, ℕ, true, false, Err, length, Ok, IfOk, IfErr, OnOk, OnErr};
 ghost use Rattle.pd_plan_json.specs.Served.{IsServed};
-ghost use Rattle.pd_top.specs.declared.words.WordFault.{WordFault};
-ghost use Rattle.pd_top.specs.Words.{texts, command_of};
+ghost use Rattle.pd_words.specs.declared.asked.WordFault.{WordFault};
+ghost use Rattle.pd_words.specs.Words.{texts, command_of, HasFuelInRange};
 ghost use Rattle.pd_top.specs.Files.{IsGrown};
-ghost use Rattle.pd_top.specs.Answers.{Reading, reading_of, writing_of, IsWritten, IsWrittenInPart, IsTextOf, IsWhole, IsReason, Tells, IsDecided, is_unwritten};
+ghost use Rattle.pd_top.specs.Stops.{StopsWords};
+ghost use Rattle.pd_top.specs.Answers.{Reading, reading_of, writing_of, IsWritten, IsWrittenInPart, IsTranscript, IsTextOf, IsWhole, IsReason, Tells, IsDecided, is_unwritten};
 
 use crate::accepting::{Accepted, accept};
 use crate::outcome::{Outcome, Unwritten};
-use crate::words::{Command, read_words};
 use pd_host::run_plan;
 use pd_outside::{Failed, Gate, Library, Sink};
-use pd_report::{check_line, text_of};
-use pd_values::Text;
+use pd_report::{check_line, json_of, text_of};
+use pd_values::{Stop, Text};
+use pd_words::{Command, WordFault, read_words};
 use std::alloc::{AllocError, Global};
 use std::thread::Threads;
 
@@ -42,6 +43,30 @@ struct Prepared {
     text: Text,
 }
 
+// The report of a plan's run, with its transcript as text or as JSON. Nothing is written here.
+fn transcript_of<G: Gate>(
+    alloc: Global,
+    accepted: &Accepted,
+    json: bool,
+    gate: &G,
+) -> Result<Prepared, AllocError>
+    requires served { IsServed accepted.now.plan }
+    requires entry { 0 < length accepted.now.program.entries }
+    ensures { IfOk result (λ p. IsTranscript json accepted.now.plan accepted.now.program p.answer p.text) }
+{
+    let Accepted { plan, program } = accepted;
+    let report = run_plan(alloc, plan, program, gate)?;
+    let text = if json {
+        json_of(alloc, &report, plan, program)?
+    } else {
+        text_of(alloc, &report, plan, program)?
+    };
+    Ok(Prepared {
+        answer: Unwritten::Ran(report),
+        text,
+    })
+}
+
 // The answer of a command, with its text, for a plan and its program. Nothing is written here.
 fn answer_of<G: Gate>(
     alloc: Global,
@@ -53,20 +78,26 @@ fn answer_of<G: Gate>(
     requires entry { 0 < length accepted.now.program.entries }
     ensures { IfOk result (λ p. IsTextOf command.now accepted.now.plan accepted.now.program p.answer p.text) }
 {
-    let Accepted { plan, program } = accepted;
     match command {
-        Command::Trace(_) | Command::Run(_) => {
-            let report = run_plan(alloc, plan, program, gate)?;
-            let text = text_of(alloc, &report, plan, program)?;
-            Ok(Prepared {
-                answer: Unwritten::Ran(report),
-                text,
-            })
-        }
+        Command::Trace(_) => transcript_of(alloc, accepted, false, gate),
+        Command::Run(words) => transcript_of(alloc, accepted, words.json, gate),
         Command::Check(_) => Ok(Prepared {
             answer: Unwritten::Checked,
-            text: check_line(alloc, plan, program)?,
+            text: check_line(alloc, &accepted.plan, &accepted.program)?,
         }),
+    }
+}
+
+// What the words ask for.
+fn command_in(alloc: Global, words: &[String]) -> Result<Command, Outcome>
+    ensures asked { IfOk result (λ command. command_of (texts words.now) ≡ Ok command) }
+    ensures fuel { IfOk result HasFuelInRange }
+    ensures stopped { IfErr result (StopsWords (texts words.now)) }
+{
+    match read_words(alloc, words) {
+        Ok(command) => Ok(command),
+        Err(Stop::Refused(fault)) => Err(Outcome::Usage(fault)),
+        Err(Stop::Memory) => Err(Outcome::Memory),
     }
 }
 
@@ -79,13 +110,13 @@ fn prepare<L: Library, G: Gate>(
 ) -> Result<Prepared, Outcome>
     ensures whole { IfOk result (λ p. IsWhole (reading_of L.held L.given L.faults L.last_fault (texts words.now) files.old files.new) p.answer p.text) }
     ensures reason { IfErr result (IsReason (reading_of L.held L.given L.faults L.last_fault (texts words.now) files.old files.new)) }
-    ensures usage { (fault : WordFault) → command_of (texts words.now) ≡ Err fault → result ≡ Err (Outcome.Usage fault) }
-    ensures nothing_fetched { (fault : WordFault) → result ≡ Err (Outcome.Usage fault) → files.new ≡ files.old }
+    ensures usage { (fault : WordFault) → command_of (texts words.now) ≡ Err fault → (result ≡ Err (Outcome.Usage fault)) ⊎ (result ≡ Err Outcome.Memory) }
+    ensures nothing_fetched { (fault : WordFault) → command_of (texts words.now) ≡ Err fault → files.new ≡ files.old }
     ensures held { L.held files.new ≡ L.held files.old }
     ensures given { IsGrown (L.given files.old) (L.given files.new) }
     ensures count { L.faults files.old ≤ L.faults files.new }
 {
-    let command = read_words(alloc, words)?;
+    let command = command_in(alloc, words)?;
     let accepted = accept(alloc, &command, files)?;
     Ok(answer_of(alloc, &command, &accepted, gate)?)
 }
@@ -131,9 +162,9 @@ pub fn run<R: Threads + Sync, L: Library, K: Sink, G: Gate>(
         (reading_of L.held L.given L.faults L.last_fault (texts words.now) files.old files.new)
         (writing_of K.taken K.accepted K.faults out.old out.new) result }
 
-    // Words that are no command are always answered so, and then no file is asked for.
-    ensures usage { (fault : WordFault) → command_of (texts words.now) ≡ Err fault → result ≡ Outcome.Usage fault }
-    ensures nothing_fetched { (fault : WordFault) → result ≡ Outcome.Usage fault → files.new ≡ files.old }
+    // Words that are no command are answered so, or with `Memory`, and then no file is asked for.
+    ensures usage { (fault : WordFault) → command_of (texts words.now) ≡ Err fault → (result ≡ Outcome.Usage fault) ⊎ (result ≡ Outcome.Memory) }
+    ensures nothing_fetched { (fault : WordFault) → command_of (texts words.now) ≡ Err fault → files.new ≡ files.old }
 
     // With an answer other than `Ran`, `Checked` and `SinkFailed` nothing is written.
     ensures nothing_written { is_unwritten result ≡ true → out.new ≡ out.old }

@@ -1,8 +1,8 @@
 use Rattle.std.proofs.Common.{◌≡◌, ◌∙◌, ℕ, List, Some, ap, sym, inl, inr}
 use Rattle.std.specs.Prelude.{◌⊎◌}
 use Rattle.std.proofs.lemmas.Result.{IfErr-weaker}
-use Rattle.pd_top.specs.declared.words.Command.{Command}
-use Rattle.pd_top.specs.declared.words.Command.TheVariants.{Run, Check}
+use Rattle.pd_words.specs.declared.asked.Command.{Command}
+use Rattle.pd_words.specs.declared.asked.Command.TheVariants.{Run, Check}
 use Rattle.pd_top.specs.Files.{read_between}
 use Rattle.pd_top.specs.Causes.{plan_file}
 use Rattle.pd_top.specs.Stops.{StopsPlan, StopsAccepting}

@@ -1,5 +1,5 @@
 use Rattle.std.proofs.lemmas.Result.{err_from_is_err_and}
-use Rattle.pd_top.specs.Words.{texts}
+use Rattle.pd_words.specs.Words.{texts}
 use Rattle.pd_top.specs.Answers.{reading_of}
 use Rattle.pd_top.proofs.AnswerLemmas.{accepting_reason}
 use Rattle.pd_top.proofs.top.prepare.Goals as goal

@@ -1,5 +1,5 @@
 -- What is told at the two ends: with a text that was written, and with nothing written.
-use Rattle.pd_top.specs.Words.{texts}
+use Rattle.pd_words.specs.Words.{texts}
 use Rattle.pd_top.specs.Answers.{reading_of, writing_of}
 use Rattle.pd_top.proofs.AnswerLemmas.{tells_reason, decided}
 use Rattle.pd_top.proofs.top.run.Goals as goal

@@ -1,0 +1,12 @@
+//! The words of commands: the first one names the command, and the command's own are read by `clap`.
+#![tactic(auto)]
+
+mod asked;
+mod commands;
+mod fuel;
+mod matching;
+mod words;
+
+pub use asked::{Command, RunWords, WordFault};
+pub use fuel::with_fuel;
+pub use words::{read_gen, read_words};
