@@ -4,8 +4,9 @@ import re
 
 HOME = os.path.dirname(os.path.dirname(os.path.realpath(__file__)))
 
-# The groups, lowest first. Each is a comment line of crates.txt and a heading of docs/ARCHITECTURE.md and docs/PROOFS.md.
-GROUPS = ["base", "languages", "plans", "running", "watching", "debugging", "tools", "command", "tests"]
+# The groups. Each that has a crate is a comment line of crates.txt, which gives their order, and a heading of docs/ARCHITECTURE.md and
+# docs/PROOFS.md.
+GROUPS = ["base", "languages", "running", "plans", "watching", "debugging", "tools", "command", "tests"]
 
 
 class Crate:
@@ -30,20 +31,29 @@ def read_text(path):
 
 def read_crates():
     """Returns the crates in the order of crates.txt, with their layers, and what is wrong with the file."""
-    crates, faults, group = [], [], ""
+    crates, faults, groups = [], [], []
     for number, line in enumerate(read_text("crates.txt").split("\n"), 1):
         if line.startswith("# ") and line[2:] in GROUPS:
-            if group and GROUPS.index(line[2:]) <= GROUPS.index(group):
-                faults.append(f"crates.txt:{number}: the group {line[2:]} stands behind {group}")
-            group = line[2:]
+            if line[2:] in groups:
+                faults.append(f"crates.txt:{number}: the group {line[2:]} begins twice")
+            groups.append(line[2:])
         found = re.match(r"(\w+)[^:#]*:(.*)", line)
         if not found:
             continue
-        if not group:
+        if not groups:
             faults.append(f"crates.txt:{number}: {found[1]} stands in no group")
-        crates.append(Crate(found[1], group, found[2].split("#")[0].split()))
+        crates.append(Crate(found[1], groups[-1] if groups else GROUPS[0], found[2].split("#")[0].split()))
     faults += layered(crates)
     return crates, faults
+
+
+def groups_of(crates):
+    """Returns all groups in the order of crates.txt; one that has no crate yet stands before `command`."""
+    order = list(dict.fromkeys(it.group for it in crates))
+    for group in GROUPS:
+        if group not in order:
+            order.insert(order.index("command") if "command" in order else len(order), group)
+    return order
 
 
 def layered(crates):

@@ -62,7 +62,7 @@ def picture(crates):
         f'<svg xmlns="http://www.w3.org/2000/svg" viewBox="0 0 {width:.0f} {height:.0f}" font-family="sans-serif" font-size="12">',
         f'<rect width="{width:.0f}" height="{height:.0f}" fill="#ffffff"/>',
     ]
-    for number, group in enumerate(listed.GROUPS):
+    for number, group in enumerate(listed.groups_of(crates)):
         x = LEFT + number * 110
         lines.append(f'<rect x="{x}" y="12" width="14" height="14" fill="{COLOURS[group]}" stroke="#666666"/>')
         lines.append(f'<text x="{x + 20}" y="24">{group}</text>')

@@ -2,7 +2,8 @@
 """Finds where a map of the repository lies.
 
   tools/maps.py            names each fault, and ends with status 1 where there is one
-  tools/maps.py --write    sets the layers in docs/ARCHITECTURE.md, the reading list in docs/PROOFS.md and docs/layers.svg
+  tools/maps.py --write    puts the rows of docs/ARCHITECTURE.md and docs/PROOFS.md in order, and writes the layers, the reading list in
+                           docs/PROOFS.md and docs/layers.svg
 
 crates.txt has the crates in groups and layers, lowest first, and each dependency is named in the crate's code, definitions or proofs.
 docs/ARCHITECTURE.md has one row for each crate, in the heading of its group and with its layer; docs/PROOFS.md has one row for each.
@@ -63,15 +64,40 @@ def faults_of_rows(path, crates, has_layers):
     return faults
 
 
-def with_layers(text, crates):
-    """Returns the page with the layer of each crate in its row."""
-    layer = {it.name: it.layer for it in crates}
+def in_order(text, crates, has_layers):
+    """Returns the page with its groups and rows in the order of crates.txt, and with the layer of each crate in its row."""
+    place = {it.name: number for number, it in enumerate(crates)}
+    group_of = {it.name: it.group for it in crates}
+    pieces = re.split(r"(?m)^(?=#+ )", text)
+    sections = {it.split("\n")[0].lstrip("# "): it for it in pieces}
+    sections = {group: it for group, it in sections.items() if group in listed.GROUPS}
+    rows = {group: [] for group in sections}
+    for group, section in sections.items():
+        for line in section.split("\n"):
+            row = ROW.match(line)
+            if row and row[1] != "crate":
+                rows[group_of.get(row[1], group)].append(with_layer(line, crates) if has_layers else line)
+    first = next(number for number, it in enumerate(pieces) if it in sections.values())
+    others = [it for it in pieces if it not in sections.values()]
+    for group in listed.groups_of(crates):
+        if group in sections:
+            these = sorted(rows[group], key=lambda it: place.get(ROW.match(it)[1], len(crates)))
+            others.insert(first, with_rows(sections[group], these))
+            first += 1
+    return "".join(others)
 
-    def row(found):
-        name = found[1]
-        return f"| {name} | {layer[name]} |" if name in layer else found[0]
 
-    return re.sub(r"(?m)^\| (\w+) \| (?:\d+|not yet) \|", row, text)
+def with_layer(line, crates):
+    layer = {it.name: str(it.layer) for it in crates}
+    return re.sub(r"^\| (\w+) \| [^|]* \|", lambda it: f"| {it[1]} | {layer.get(it[1], NOT_YET)} |", line)
+
+
+def with_rows(section, rows):
+    """Returns the section with these rows in the place of its own, under the head of its table."""
+    lines = section.split("\n")
+    head = next(number for number, it in enumerate(lines) if it.startswith("|---"))
+    behind = [it for it in lines[head + 1 :] if not it.startswith("| ")]
+    return "\n".join([*lines[: head + 1], *rows, *behind])
 
 
 def written(crates):
@@ -93,10 +119,15 @@ def faults_of(crates):
 
 
 def write(crates):
-    pages = {"docs/ARCHITECTURE.md": with_layers(listed.read_text("docs/ARCHITECTURE.md"), crates), **written(crates)}
-    for path, text in pages.items():
-        with open(f"{listed.HOME}/{path}", "w", encoding="utf-8") as file:
-            file.write(text)
+    for path, has_layers in (("docs/ARCHITECTURE.md", True), ("docs/PROOFS.md", False)):
+        put(path, in_order(listed.read_text(path), crates, has_layers))
+    for path, text in written(crates).items():
+        put(path, text)
+
+
+def put(path, text):
+    with open(f"{listed.HOME}/{path}", "w", encoding="utf-8") as file:
+        file.write(text)
 
 
 def main(words):
