@@ -1,0 +1,4 @@
+// Refused: the operand after + is missing.
+function main() {
+  println(1 + );
+}

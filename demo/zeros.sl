@@ -1,0 +1,7 @@
+// Only `main` runs.
+function main() {
+  println("main");
+}
+function never() {
+  println("never");
+}
