@@ -9,10 +9,10 @@ ghost use Rattle.pd_observing.specs.Delivering.{fixed_of};
 ghost use Rattle.pd_observing.specs.Keeping.{IsRoomed, IsRoomedFor, IsKeptAt, IsKept, start_of};
 
 use crate::deliver::Deliveries;
-use crate::heard::Heard;
 use crate::meeting::meet_all;
 use crate::parting::part_all;
 use pd_board::{Board, Chain, Known};
+use pd_eval::Heard;
 use pd_machine::{Event, EventKind, Scene};
 use pd_values::{Items, NodeId};
 use std::alloc::{AllocError, Global};

@@ -8,11 +8,10 @@ ghost use Rattle.pd_observing.specs.Keeping.{IsNew, IsKept};
 ghost use Rattle.pd_observing.specs.Beginning.{fuel_at, IsReadyFor, IsKeptWith, IsOver};
 
 use crate::deliver::Deliveries;
-use crate::heard::Heard;
 use crate::hearing::Hearing;
 use crate::watch::Guest;
 use pd_board::Board;
-use pd_eval::Ran;
+use pd_eval::{Heard, Ran};
 use pd_observed::ContextRecord;
 use pd_outside::Gate;
 use pd_plan::Plan;
