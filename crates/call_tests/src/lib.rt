@@ -24,6 +24,8 @@ mod sl_lex;
 #[cfg(test)]
 mod sl_read;
 #[cfg(test)]
+mod suspend;
+#[cfg(test)]
 mod tree;
 #[cfg(test)]
 mod turn;

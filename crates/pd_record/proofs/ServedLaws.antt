@@ -101,22 +101,26 @@ life-known start Disposed Attached ds h l = absurd (two_one h)
     two_one : 2 ≤ 1 → ⊥
     two_one k = omega (arith, k)
 life-known start Fresh Attached ds h l = record {
-  window = l.window;
+  given = record {
+    window = l.given.window;
+    lives = λ k. off_then_numbers-all ds (l.fresh refl);
+    before = l.given.before;
+    before_lives = λ e k. l.given.before_lives e (λ x. disposed_fresh (sym x));
+  };
   fresh = λ e. absurd (attached_fresh e);
-  lives = λ k. off_then_numbers-all ds (l.fresh refl);
-  attached = l.attached;
-  attached_lives = λ e k. l.attached_lives e (λ x. disposed_fresh (sym x));
   forward = omega (arith, l.forward);
 }
   where
     attached_fresh : Attached ≡ Fresh → ⊥
     attached_fresh e = cc
 life-known start old Disposed ds h l = record {
-  window = l.window;
+  given = record {
+    window = l.given.window;
+    lives = λ k. absurd (k refl);
+    before = l.given.before;
+    before_lives = λ e k. absurd (k refl);
+  };
   fresh = λ e. absurd (disposed_fresh e);
-  lives = λ k. absurd (k refl);
-  attached = l.attached;
-  attached_lives = λ e k. absurd (k refl);
   forward = most start;
 }
   where

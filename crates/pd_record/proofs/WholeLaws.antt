@@ -1,5 +1,5 @@
 -- The record of a context at its end, and what an event adds to the board's answers.
-use Rattle.std.proofs.Common.{◌≡◌, ℕ, Bool, true, false, not, cond, List, [], ◌∷◌, ◌++◌, map, length, refl, sym, ap, ◌∙◌, arith}
+use Rattle.std.proofs.Common.{◌≡◌, ℕ, Bool, true, false, not, cond, List, [], ◌∷◌, ◌++◌, map, length, refl, sym, ap, ◌∙◌, subst, arith}
 use Rattle.std.specs.Prelude.{filter, flat_map, nat_le, nat_lt, ◌==◌}
 use Rattle.std.specs.List.{list_all, filter_map, cons_option}
 use Rattle.std.proofs.lemmas.Bool.{and_parts, and_left, cond-false, ltb-true, leb-true, ne_eqb}
@@ -19,6 +19,14 @@ use Rattle.pd_suspend.specs.Answers.{acts_of}
 use Rattle.pd_suspend.specs.declared.context.ContextRecord.{ContextRecord}
 use Rattle.pd_record.specs.Acts.{uses_up}
 use Rattle.pd_record.specs.Replies.{used_up_by, Owed, of_act, of_hit, owed_at, owed_of}
+use Rattle.pd_log.specs.declared.Entry.{Entry}
+use Rattle.pd_board.specs.declared.answers.Drawn.{Drawn}
+use Rattle.pd_board.specs.declared.answers.Known.{Known}
+use Rattle.pd_board.specs.declared.answers.Known.TheVariants.{Attached, Disposed}
+use Rattle.pd_board.specs.OnContext.{IsGivenOn, IsLifeOn}
+use Rattle.pd_record.specs.Logs.{answer_at, moments_of, subject_events}
+use Rattle.pd_record.specs.Life.{numbers_of}
+use Rattle.pd_record.specs.Served.{IsServed}
 use Rattle.pd_record.specs.Record.{IsObserved}
 use Rattle.pd_record.specs.Serving.{IsCurrent}
 
@@ -32,6 +40,23 @@ observed-all plan p context n start now events r seen count i = record {
   sights = i.seen;
   count = count;
   served = λ b h. i.served b;
+}
+
+-- ---- a binding's life
+
+answers-are : (plan : Plan) (p : Program) (seen : List Sight) (b : ℕ) (ts : List Told)
+    → map (λ (t : Told). answer_at seen t.event.number b) ts ≡ map (λ (m : ℕ × Drawn). m.1) (map (λ (t : Told). (t.event.number, answer_at seen t.event.number b)) ts)
+answers-are plan p seen b [] = refl
+answers-are plan p seen b (t ∷ ts) = ap (λ ds. answer_at seen t.event.number b ∷ ds) (answers-are plan p seen b ts)
+
+-- a binding that was served has the life of a binding on one context
+pub life-on : (plan : Plan) (p : Program) (context : ℕ) (start : Known) (s : Standing) (log : List Entry) (events : List Told) (done : List (ℕ × ActResult)) (b : ℕ)
+    → IsServed plan p context start s log events done b
+    → IsLifeOn (uses_up plan b) (start ≡ Attached) (s.known b ≡ Disposed) b (numbers_of s.sights b) (moments_of plan p s.sights events b) done
+life-on plan p context start s log events done b i = record {
+  given = subst (IsGivenOn (start ≡ Attached) (s.known b ≡ Disposed)) (answers-are plan p s.sights b (subject_events plan p s.sights events b)) i.life.given;
+  acted = i.acted.on;
+  rising = i.rising;
 }
 
 -- ---- the board's answers

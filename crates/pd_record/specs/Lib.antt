@@ -1,5 +1,5 @@
 -- Definitions, which public contracts cite: Logs, Life, Acts, Seen, Served, Replies and Record.
--- For the proofs alone: Turning, Step, Serving, Stopping and Replying.
+-- For the laws on a record that grows: Turning, Step, Serving, Stopping and Laws. For proofs alone: Replying.
 pub mod Logs
 pub mod Life
 pub mod Acts
@@ -12,3 +12,4 @@ pub mod Step
 pub mod Serving
 pub mod Stopping
 pub mod Replying
+pub mod Laws

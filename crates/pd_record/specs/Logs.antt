@@ -15,6 +15,8 @@ use Rattle.pd_condition.specs.Truths.{truth_for, is_false}
 use Rattle.pd_board.specs.declared.answers.Drawn.{Drawn}
 use Rattle.pd_board.specs.declared.answers.Drawn.TheVariants.{On, Off}
 use Rattle.pd_board.specs.declared.answers.Sight.{Sight}
+pub use Rattle.pd_board.specs.OnContext.{is_off, is_number}
+pub use Rattle.pd_board.specs.Kept.{place_of}
 use Rattle.pd_log.specs.declared.Entry.{Entry}
 use Rattle.pd_suspend.specs.Steps.{is_enter}
 
@@ -29,24 +31,10 @@ abbrev pub answer_at : List Sight → ℕ → ℕ → Drawn
 answer_at [] event binding = Off
 answer_at (s ∷ ss) event binding = if is_of event binding s then s.drawn else answer_at ss event binding
 
--- the place in the binding's log that a draw gave
-abbrev pub place_of : Drawn → Option ℕ
-place_of (On p) = Some p
-place_of _ = None
-
 -- whether a draw gave an entry
 abbrev pub is_on : Drawn → Bool
 is_on (On p) = true
 is_on _ = false
-
--- whether a draw gave no number
-abbrev pub is_off : Drawn → Bool
-is_off Off = true
-is_off _ = false
-
--- it took a number of the binding, be it the place of an entry or a missed one
-abbrev pub is_number : Drawn → Bool
-is_number d = not (is_off d)
 
 -- ---- subject events
 

@@ -1,4 +1,4 @@
--- For the code's proofs: no public contract needs it.
+-- Definition, for the laws on a record that grows (Laws) and for the proofs of code; what a record is needs none of it.
 -- How far an event was served: the bindings that are left stand as before it, and all others as after it.
 use Rattle.std.specs.Prelude.{◌≡◌, ℕ, ◌≤◌, ◌==◌, ◌&&◌, ◌||◌, Bool, true, false, not, nat_lt, List, [], ◌∷◌, ◌++◌, slice_index_or, filter, if◌then◌else◌, Option, Some, None}
 use Rattle.std.specs.List.{list_all, list_any, filter_map}

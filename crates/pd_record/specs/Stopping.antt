@@ -1,4 +1,4 @@
--- For the code's proofs: no public contract needs it.
+-- Definition, for the laws on a record that grows (Laws) and for the proofs of code; what a record is needs none of it.
 -- How far the suspensions of a context are known: whatever is seen and replied later, they are these so far.
 use Rattle.std.specs.Prelude.{◌≡◌, ℕ, ◌<◌, ◌≤◌, ◌==◌, Bool, List, [], ◌∷◌, ◌++◌, map, length, slice_get, Option, None, Some}
 use Rattle.std.specs.List.{list_all}

@@ -13,7 +13,7 @@ use Rattle.pd_suspend.specs.declared.suspension.Suspension.{Suspension}
 use Rattle.pd_suspend.specs.Steps.{Armed, step_of, stands_before, stands_after, ends_at}
 use Rattle.pd_suspend.specs.Stops.{is_over, step_left, step_in}
 use Rattle.pd_suspend.specs.Counters.{Counters, armed, is_counted, sees, moved, moved_by, idle, armed_by, sees_any, moved_any, stepper_of}
-use Rattle.pd_suspend.specs.Laws.{AreNumbered, IsStepping, NewIsIdle, SeesTheEnd, SeesOneMore, ArmsTheStep, CountsEvents, StepsFollowStops}
+use Rattle.pd_suspend.specs.Laws.{AreNumbered, IsStepping, NewIsIdle, SeesTheEnd, SeesOneMore, ArmsTheStep, StepsFollowStops}
 use Rattle.pd_suspend.proofs.Stepping.{counters_see}
 use Rattle.pd_suspend.proofs.Stopping.{step_in-own, step_in-other}
 
@@ -28,11 +28,6 @@ drop-push zero xs x h = refl
 drop-push (suc k) [] x h = absurd (omega (arith, h))
 drop-push (suc k) (y ∷ ys) x h = drop-push k ys x (omega (arith, h))
 
-drop-short : {A : Type 0} (k : ℕ) (xs : List A) → length (drop k xs) ≤ length xs
-drop-short zero xs = omega arith
-drop-short (suc k) [] = omega arith
-drop-short (suc k) (y ∷ ys) = let i = drop-short k ys in omega (arith, i)
-
 -- ---- counters over one more event
 
 moved_by-push : (p : Program) (c : Counters) (xs : List Told) (t : Told)
@@ -40,27 +35,16 @@ moved_by-push : (p : Program) (c : Counters) (xs : List Told) (t : Told)
 moved_by-push p c [] t = refl
 moved_by-push p c (x ∷ xs) t = moved_by-push p (moved c (stands_before p x.event) (stands_after p x.event) x.event.depth) xs t
 
-one-at-most : (n : ℕ) (b : Bool) → n + (if b then 1 else 0) ≤ n + 1
-one-at-most n true = omega arith
-one-at-most n false = omega arith
-
-counted : (p : Program) (c : Counters) (xs : List Told) → (moved_by p c xs).count ≤ c.count + length xs
-counted p c [] = omega arith
-counted p c (x ∷ xs) =
-    let i = counted p (moved c (stands_before p x.event) (stands_after p x.event) x.event.depth) xs in
-    let o = one-at-most c.count (is_counted c (stands_before p x.event) (stands_after p x.event) x.event.depth) in
-    omega (arith, i, o)
-
 -- ---- the laws
 
 pub new_is_idle : NewIsIdle
-new_is_idle p = (refl, refl)
+new_is_idle p = refl
 
 sees-none : (s : Stepper) (before after : Bool) (d : ℕ) → s.step ≡ None → sees_any s before after d ≡ false
 sees-none s before after d h = ap (λ (o : Option Step). elim o as (λ _. Bool) [ None ↦ false | Some step ↦ sees (record { step = step; depth = s.depth; least = s.least; count = s.count }) before after d ]) h
 
 pub sees_the_end : SeesTheEnd
-sees_the_end p past None s t numbered number stepping = sees-none s (stands_before p t.event) (stands_after p t.event) t.event.depth stepping.0
+sees_the_end p past None s t numbered number stepping = sees-none s (stands_before p t.event) (stands_after p t.event) t.event.depth stepping
 sees_the_end p past (Some a) s t numbered number stepping =
     ap (λ x. sees_any x (stands_before p t.event) (stands_after p t.event) t.event.depth) stepping.1
     ∙ counters_see p past a t numbered stepping.0 number
@@ -70,7 +54,7 @@ moved-none s before after d h = ap (λ (o : Option Step). elim o as (λ _. Stepp
 
 pub sees_one_more : SeesOneMore
 sees_one_more p past None s t stepping =
-    subst (λ x. IsStepping p (past ++ t ∷ []) None x) (sym (moved-none s (stands_before p t.event) (stands_after p t.event) t.event.depth stepping.0)) stepping
+    subst (λ x. IsStepping p (past ++ t ∷ []) None x) (sym (moved-none s (stands_before p t.event) (stands_after p t.event) t.event.depth stepping)) stepping
 sees_one_more p past (Some a) s t stepping =
     let within = stepping.0 in
     let long : length (past ++ t ∷ []) ≡ length past + 1 = length-append past (t ∷ []) in (
@@ -82,7 +66,7 @@ sees_one_more p past (Some a) s t stepping =
 
 armed-left : (p : Program) (past : List Told) (t : Told) (depth e : ℕ) (o : Option Step) → e ≡ length past
     → IsStepping p (past ++ t ∷ []) (option_map (λ step. record { step = step; event = e; depth = depth }) o) (armed_by o depth)
-armed-left p past t depth e None h = (refl, refl)
+armed-left p past t depth e None h = refl
 armed-left p past t depth e (Some step) h =
     let long : length (past ++ t ∷ []) ≡ length past + 1 = length-append past (t ∷ []) in
     let nothing : drop (suc e) (past ++ t ∷ []) ≡ [] = ap (λ k. drop (suc k) (past ++ t ∷ [])) h ∙ drop-long past t in
@@ -90,14 +74,6 @@ armed-left p past t depth e (Some step) h =
 
 pub arms_the_step : ArmsTheStep
 arms_the_step p past t x at = armed-left p past t (length x.frames) x.event (step_of x.resume) at
-
-pub counts_events : CountsEvents
-counts_events p past None s stepping = omega (arith, stepping.1)
-counts_events p past (Some a) s stepping =
-    let c = counted p (armed a.step a.depth) (drop (suc a.event) past) in
-    let short = drop-short (suc a.event) past in
-    let e : s.count ≡ (moved_by p (armed a.step a.depth) (drop (suc a.event) past)).count = ap (λ x. x.count) stepping.1 in
-    omega (arith, c, short, e)
 
 pub steps_follow_stops : StepsFollowStops
 steps_follow_stops = record {

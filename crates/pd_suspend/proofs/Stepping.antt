@@ -1,6 +1,7 @@
 -- The counters of a step see exactly where it ends.
-use Rattle.std.proofs.Common.{◌≡◌, ℕ, zero, suc, ◌+◌, ◌-◌, min, Bool, ◌==◌, ◌&&◌, List, [], ◌∷◌, ◌++◌, map, length, take, drop, refl, sym, ap, ◌∙◌, subst, arith, length-drop}
-use Rattle.std.specs.Prelude.{if◌then◌else◌, count_by}
+use Rattle.std.proofs.Common.{◌≡◌, ℕ, zero, suc, ◌+◌, ◌-◌, min, Bool, true, false, inl, inr, ◌==◌, ◌&&◌, List, [], ◌∷◌, ◌++◌, map, length, take, drop, refl, sym, ap, ◌∙◌, subst, arith, length-drop}
+use Rattle.std.specs.Prelude.{if◌then◌else◌, nat_lt, count_by}
+use Rattle.std.proofs.lemmas.Bool.{cases_lt, cond-true, cond-false, lt-ltb, le-ltb, ne_eqb}
 use Rattle.std.proofs.lemmas.List.{append-nil, length-append}
 use Rattle.std.proofs.lemmas.List.Sums.{sum_by_push}
 use Rattle.std.proofs.Math.Seq.{take-append_seam, append_snoc, take-length}
@@ -46,6 +47,27 @@ least-push d (x ∷ xs) t = ap (min x.event.depth) (least-push d xs t) ∙ min-s
 count-push : {X : Type 0} (test : X → Bool) (xs : List X) (x : X) → count_by test (xs ++ x ∷ []) ≡ count_by test xs + (if test x then 1 else 0)
 count-push test xs x = sum_by_push (λ y. if test y then 1 else 0) xs x
 
+-- ---- places that count
+
+-- the counter stays at the place that is wanted
+cap-counts : (b : Bool) (k w : ℕ) → (if b && nat_lt (min k w) w then min k w + 1 else min k w) ≡ min (k + (if b then 1 else 0)) w
+cap-counts false k w = omega arith
+cap-counts true k w = elim (cases_lt k w) [
+  | inl low ↦ cond-true (nat_lt (min k w) w) (min k w + 1) (min k w) (lt-ltb (min k w) w (omega (arith, low))) ∙ omega (arith, low)
+  | inr high ↦ cond-false (nat_lt (min k w) w) (min k w + 1) (min k w) (le-ltb (min k w) w (omega (arith, high))) ∙ omega (arith, high)
+]
+
+-- and the step ends there once
+cap-ends : (b : Bool) (k w : ℕ) → ((b && nat_lt (min k w) w) && (suc (min k w) == w)) ≡ (b && (suc k == w))
+cap-ends false k w = refl
+cap-ends true k w = elim (cases_lt k w) [
+  | inl low ↦
+      let is : min k w ≡ k = omega (arith, low) in
+      ap (λ x. x && (suc (min k w) == w)) (lt-ltb (min k w) w (omega (arith, low))) ∙ ap (λ m. suc m == w) is
+  | inr high ↦
+      ap (λ x. x && (suc (min k w) == w)) (le-ltb (min k w) w (omega (arith, high))) ∙ sym (ne_eqb (suc k) w (λ e. omega (arith, high, e)))
+]
+
 -- ---- the counters after some of the events
 
 module _ (p : Program) (past : List Told) (a : Armed) where
@@ -54,7 +76,7 @@ module _ (p : Program) (past : List Told) (a : Armed) where
 
   state : List Told → Counters
   unfolding made
-  state done = made (least_depth a.depth done) (count_by (λ t. is_place p past a t.event) done)
+  state done = made (least_depth a.depth done) (min (count_by (λ t. is_place p past a t.event) done) (wanted a.step))
 
   moved-state : (done : List Told) (t : Told) → least_before past a t.event.number ≡ least_depth a.depth done
       → moved (state done) (stands_before p t.event) (stands_after p t.event) t.event.depth ≡ state (done ++ t ∷ [])
@@ -62,10 +84,12 @@ module _ (p : Program) (past : List Told) (a : Armed) where
   moved-state done t h =
       let test : Told → Bool = λ t. is_place p past a t.event in
       let k : ℕ = count_by test done in
+      let w : ℕ = wanted a.step in
       let counted : ℕ → Bool = λ least. counts a.step a.depth least (stands_before p t.event) (stands_after p t.event) t.event.depth in
-      ap (λ x. made x (k + (if counted (least_depth a.depth done) then 1 else 0))) (sym (least-push a.depth done t))
-      ∙ ap (λ x. made (least_depth a.depth (done ++ t ∷ [])) (k + (if counted x then 1 else 0))) (sym h)
-      ∙ ap (made (least_depth a.depth (done ++ t ∷ []))) (sym (count-push test done t))
+      ap (λ x. made x (if counted (least_depth a.depth done) && nat_lt (min k w) w then min k w + 1 else min k w)) (sym (least-push a.depth done t))
+      ∙ ap (made (least_depth a.depth (done ++ t ∷ []))) (cap-counts (counted (least_depth a.depth done)) k w)
+      ∙ ap (λ x. made (least_depth a.depth (done ++ t ∷ [])) (min (k + (if counted x then 1 else 0)) w)) (sym h)
+      ∙ ap (λ x. made (least_depth a.depth (done ++ t ∷ [])) (min x w)) (sym (count-push test done t))
 
   run-states : (later : List Told) → drop (suc a.event) past ≡ later → (done rest : List Told) → done ++ rest ≡ later
       → IsNumberedFrom (suc a.event + length done) rest → moved_by p (state done) rest ≡ state later
@@ -83,6 +107,9 @@ module _ (p : Program) (past : List Told) (a : Armed) where
 
 -- ---- the law
 
+none-yet : (w : ℕ) → 0 ≡ min 0 w
+none-yet w = omega arith
+
 numbered-drop : (n k : ℕ) (ts : List Told) → IsNumberedFrom n ts → IsNumberedFrom (n + k) (drop k ts)
 unfolding IsNumberedFrom
 numbered-drop n zero ts h = subst (λ m. IsNumberedFrom m ts) (omega arith) h
@@ -95,7 +122,7 @@ counters_see p past a t numbered within number =
     let later : List Told = drop (suc a.event) past in
     let from : IsNumberedFrom (suc a.event + 0) later =
     subst (λ m. IsNumberedFrom m later) (omega arith) (numbered-drop 0 (suc a.event) past (one-by-one 0 past numbered)) in
-    let states : moved_by p (armed a.step a.depth) later ≡ state p past a later = run-states p past a later refl [] later refl from in
+    let states : moved_by p (armed a.step a.depth) later ≡ state p past a later = ap (λ k. moved_by p (record { step = a.step; depth = a.depth; least = a.depth; count = k }) later) (none-yet (wanted a.step)) ∙ run-states p past a later refl [] later refl from in
     let long : length later ≡ length past - suc a.event = length-drop (suc a.event) past in
     let far : t.event.number - suc a.event ≡ length later = omega (arith, long, number) in
     let whole : stretch past (suc a.event) t.event.number ≡ later =
@@ -103,4 +130,5 @@ counters_see p past a t numbered within number =
     let before : Bool = stands_before p t.event in
     let after : Bool = stands_after p t.event in
     ap (λ c. sees c before after t.event.depth) states
+    ∙ cap-ends (counts a.step a.depth (least_depth a.depth later) before after t.event.depth) (count_by (λ u. is_place p past a u.event) later) (wanted a.step)
     ∙ ap (λ x. counts a.step a.depth (least_depth a.depth x) before after t.event.depth && (suc (count_by (λ u. is_place p past a u.event) x) == wanted a.step)) (sym whole)

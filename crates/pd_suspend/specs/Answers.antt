@@ -2,13 +2,12 @@
 use Rattle.std.specs.Prelude.{◌≡◌, ℕ, Bool, true, false, ◌==◌, ◌&&◌, List, [], ◌∷◌, map, filter, slice_index_or}
 use Rattle.std.specs.List.{flat_map}
 use Rattle.pd_plan.specs.declared.plan.Act.{Act}
-use Rattle.pd_plan.specs.declared.plan.Act.TheVariants.{Attach, Dispose, Enable, Disable}
 use Rattle.pd_plan.specs.declared.plan.Answer.{Answer}
 use Rattle.pd_plan.specs.declared.plan.Resume.TheVariants.{Continue}
 use Rattle.pd_plan.specs.declared.plan.Plan.{Plan}
 use Rattle.pd_plan.specs.Sound.{AnswerRefers, ResumeFits}
 use Rattle.pd_board.specs.declared.answers.ActResult.{ActResult}
-use Rattle.pd_board.specs.declared.answers.ActResult.TheVariants as results
+use Rattle.pd_board.specs.Answers.{is_result_of}
 use Rattle.pd_suspend.specs.declared.suspension.Suspension.{Suspension}
 
 -- ---- answers
@@ -28,14 +27,6 @@ pub record IsLawful (plan : Plan) (a : Answer) : Type 0 where
   pub resume : ResumeFits a.resume
 
 -- ---- what an answer comes to
-
--- whether it is what an act was answered: of the same kind and binding
-abbrev pub is_result_of : Act → ActResult → Bool
-is_result_of (Attach b) (results.Attached c r) = c == b
-is_result_of (Dispose b) (results.Disposed c r) = c == b
-is_result_of (Enable b) (results.Enabled c r) = c == b
-is_result_of (Disable b) (results.Disabled c r) = c == b
-is_result_of _ _ = false
 
 -- one result for each act, in order
 abbrev pub are_results_of : List Act → List ActResult → Bool

@@ -1,5 +1,5 @@
 -- Definition: what holds of steps and steppers, as facts that contracts promise.
-use Rattle.std.specs.Prelude.{◌≡◌, ℕ, suc, ◌<◌, ◌≤◌, List, [], ◌∷◌, ◌++◌, map, length, drop, Option, Some, None}
+use Rattle.std.specs.Prelude.{◌≡◌, ℕ, suc, ◌<◌, List, [], ◌∷◌, ◌++◌, map, length, drop, Option, Some, None}
 use Rattle.std.specs.List.{range_with_len}
 use Rattle.pd_plan.specs.declared.plan.Resume.{Resume}
 use Rattle.pd_tree.specs.Program.{Program}
@@ -25,7 +25,7 @@ CountersSee = (p : Program) (past : List Told) (a : Armed) (t : Told)
 
 -- a stepper has been armed for this step, or for none, and has seen the events since; `past` are all events so far
 abbrev pub IsStepping : Program → List Told → Option Armed → Stepper → Type 0
-IsStepping p past None s = (s.step ≡ None) × (s.count ≡ 0)
+IsStepping p past None s = s.step ≡ None
 IsStepping p past (Some a) s = (a.event < length past) × (s ≡ stepper_of (moved_by p (armed a.step a.depth) (drop (suc a.event) past)))
 
 -- a new stepper has no step
@@ -48,10 +48,6 @@ SeesOneMore = (p : Program) (past : List Told) (o : Option Armed) (s : Stepper) 
 abbrev pub ArmsTheStep : Type 0
 ArmsTheStep = (p : Program) (past : List Told) (t : Told) (x : Suspension)
     → x.event ≡ length past → IsStepping p (past ++ t ∷ []) (step_left x) (armed_by (step_of x.resume) (length x.frames))
-
--- a stepper counts at most the events that it has seen
-abbrev pub CountsEvents : Type 0
-CountsEvents = (p : Program) (past : List Told) (o : Option Armed) (s : Stepper) → IsStepping p past o s → s.count ≤ length past
 
 -- after a suspension the step of its session is what it left, and that of any other session stays
 pub record StepsFollowStops : Type 0 where

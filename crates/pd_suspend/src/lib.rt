@@ -1,7 +1,7 @@
 //! Where a session is suspended and why, who answers, and where its step ends.
 #![tactic(auto)]
 
-ghost use Rattle.pd_suspend.specs.Laws.{CountersSee, NewIsIdle, SeesTheEnd, SeesOneMore, ArmsTheStep, CountsEvents, StepsFollowStops};
+ghost use Rattle.pd_suspend.specs.Laws.{CountersSee, NewIsIdle, SeesTheEnd, SeesOneMore, ArmsTheStep, StepsFollowStops};
 
 mod answerer;
 mod context;
@@ -23,6 +23,5 @@ pub fn stepping_law()
     ensures end { SeesTheEnd }
     ensures more { SeesOneMore }
     ensures arm { ArmsTheStep }
-    ensures count { CountsEvents }
     ensures steps { StepsFollowStops }
 {}

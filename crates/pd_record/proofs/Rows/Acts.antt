@@ -7,7 +7,7 @@
 --  6    f();
 --  7    f();
 --  8  }
-use Rattle.std.specs.Prelude.{◌≡◌, refl, ℕ, true, List, [], ◌∷◌, None, Some, pos, codes}
+use Rattle.std.specs.Prelude.{◌≡◌, refl, ℕ, true, map, List, [], ◌∷◌, None, Some, pos, codes}
 use Rattle.std.specs.Fmt.{digits}
 use Rattle.std.specs.List.{list_all}
 use Rattle.pd_values.specs.declared.value.Value.TheVariants.{Null}
@@ -34,6 +34,7 @@ use Rattle.pd_record.specs.Logs.{answer_at, moments_of, log_of}
 use Rattle.pd_record.specs.Acts.{IsActed}
 use Rattle.pd_record.specs.Seen.{in_order, is_subject_at}
 use Rattle.pd_record.proofs.Rows.Text.{brief, stops_text, log_text}
+use Rattle.pd_record.proofs.ActsLaws.{in_order_all}
 
 abbrev nodes : List Node
 nodes =
@@ -173,7 +174,7 @@ did = refl
 
 -- the disposed one is disposed, and the attached one is given all from there on
 acted_0 : IsActed plan (Unit {0}) 0 ((5, On 0) ∷ (14, Off) ∷ (19, Off) ∷ []) done
-acted_0 = record { attached = refl; attached_lives = λ _. refl; first = refl; disposed = refl; disposed_known = λ _. tt; used_up = refl; used_up_known = λ _. tt; used_up_once = refl; counted = refl; uncounted = refl; turns = refl }
+acted_0 = record { on = record { attached = refl; attached_lives = λ _. refl; first = refl; disposed = refl; used_up = refl; used_up_once = refl; counted = refl; uncounted = refl }; disposed_known = λ _. tt; used_up_known = λ _. tt; turns = in_order_all 0 (map (λ a. a.1) done) refl }
 
 acted_1 : IsActed plan ⊥ 1 ((5, Off) ∷ (19, On 0) ∷ (28, On 1) ∷ []) done
-acted_1 = record { attached = refl; attached_lives = λ _. refl; first = refl; disposed = refl; disposed_known = λ e. cc; used_up = refl; used_up_known = λ e. cc; used_up_once = refl; counted = refl; uncounted = refl; turns = refl }
+acted_1 = record { on = record { attached = refl; attached_lives = λ _. refl; first = refl; disposed = refl; used_up = refl; used_up_once = refl; counted = refl; uncounted = refl }; disposed_known = λ e. cc; used_up_known = λ e. cc; turns = in_order_all 1 (map (λ a. a.1) done) refl }

@@ -1,6 +1,6 @@
 -- Acts on two observers, each with its answer.
 --  1  function main() { debugger; }
-use Rattle.std.specs.Prelude.{◌≡◌, refl, ℕ, true, List, [], ◌∷◌, None, Some, codes}
+use Rattle.std.specs.Prelude.{◌≡◌, refl, ℕ, true, map, List, [], ◌∷◌, None, Some, codes}
 use Rattle.std.specs.Fmt.{digits}
 use Rattle.std.specs.List.{list_all}
 use Rattle.pd_values.specs.declared.value.Value.TheVariants.{Null}
@@ -27,6 +27,7 @@ use Rattle.pd_record.specs.Logs.{answer_at, log_of}
 use Rattle.pd_record.specs.Acts.{IsActed}
 use Rattle.pd_record.specs.Seen.{in_order, is_subject_at}
 use Rattle.pd_record.proofs.Rows.Text.{brief, stops_text, log_text}
+use Rattle.pd_record.proofs.ActsLaws.{in_order_all}
 
 abbrev nodes : List Node
 nodes =
@@ -130,7 +131,7 @@ unfolding meaning_of evaluated digits
 did = refl
 
 acted_0 : IsActed plan (Unit {0}) 0 ((0, Off) ∷ []) done
-acted_0 = record { attached = refl; attached_lives = λ _. refl; first = refl; disposed = refl; disposed_known = λ _. tt; used_up = refl; used_up_known = λ _. tt; used_up_once = refl; counted = refl; uncounted = refl; turns = refl }
+acted_0 = record { on = record { attached = refl; attached_lives = λ _. refl; first = refl; disposed = refl; used_up = refl; used_up_once = refl; counted = refl; uncounted = refl }; disposed_known = λ _. tt; used_up_known = λ _. tt; turns = in_order_all 0 (map (λ a. a.1) done) refl }
 
 acted_1 : IsActed plan (Unit {0}) 1 ((0, Off) ∷ []) done
-acted_1 = record { attached = refl; attached_lives = λ _. refl; first = refl; disposed = refl; disposed_known = λ _. tt; used_up = refl; used_up_known = λ _. tt; used_up_once = refl; counted = refl; uncounted = refl; turns = refl }
+acted_1 = record { on = record { attached = refl; attached_lives = λ _. refl; first = refl; disposed = refl; used_up = refl; used_up_once = refl; counted = refl; uncounted = refl }; disposed_known = λ _. tt; used_up_known = λ _. tt; turns = in_order_all 1 (map (λ a. a.1) done) refl }

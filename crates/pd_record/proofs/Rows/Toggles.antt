@@ -32,6 +32,7 @@ use Rattle.pd_record.specs.Logs.{answer_at, moments_of, log_of}
 use Rattle.pd_record.specs.Acts.{IsActed}
 use Rattle.pd_record.specs.Seen.{in_order, is_subject_at}
 use Rattle.pd_record.proofs.Rows.Text.{brief, stops_text, log_text}
+use Rattle.pd_record.proofs.ActsLaws.{in_order_all}
 
 abbrev nodes : List Node
 nodes =
@@ -164,4 +165,4 @@ unfolding meaning_of evaluated digits
 moments = refl
 
 acted : IsActed plan ⊥ 0 ((5, On 0) ∷ (14, Missed 1) ∷ (19, Missed 2) ∷ (33, On 3) ∷ (42, On 4) ∷ []) ((7, acts.Disabled 0 (toggles.At 1)) ∷ (21, acts.Enabled 0 (toggles.At 3)) ∷ [])
-acted = record { attached = refl; attached_lives = λ _. refl; first = refl; disposed = refl; disposed_known = λ e. cc; used_up = refl; used_up_known = λ e. cc; used_up_once = refl; counted = refl; uncounted = refl; turns = refl }
+acted = record { on = record { attached = refl; attached_lives = λ _. refl; first = refl; disposed = refl; used_up = refl; used_up_once = refl; counted = refl; uncounted = refl }; disposed_known = λ e. cc; used_up_known = λ e. cc; turns = in_order_all 0 (acts.Disabled 0 (toggles.At 1) ∷ acts.Enabled 0 (toggles.At 3) ∷ []) refl }

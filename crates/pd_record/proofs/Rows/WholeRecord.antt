@@ -18,6 +18,7 @@ use Rattle.pd_record.specs.Seen.{enters_of, enters_to}
 use Rattle.pd_record.specs.Served.{IsServed}
 use Rattle.pd_record.specs.Record.{IsRecord, IsReplied}
 use Rattle.pd_record.proofs.Rows.Acts.{program, plan, ran, seen, stops, done}
+use Rattle.pd_record.proofs.ActsLaws.{in_order_all}
 
 -- binding 0 was attached before the run
 abbrev start : Standing
@@ -95,8 +96,8 @@ served_0 : IsServed plan program 0 Attached now (log_of 0 plan program seen ran.
 unfolding meaning_of evaluated
 served_0 = record {
   log_is = refl;
-  life = record { window = refl; fresh = λ e. absurd (disposed_fresh e); lives = λ h. absurd (h refl); attached = λ e. refl; attached_lives = λ e h. absurd (h refl); forward = omega arith };
-  acted = record { attached = refl; attached_lives = λ h. refl; first = refl; disposed = refl; disposed_known = λ e. refl; used_up = refl; used_up_known = λ e. refl; used_up_once = refl; counted = refl; uncounted = refl; turns = refl };
+  life = record { given = record { window = refl; lives = λ h. absurd (h refl); before = λ e. refl; before_lives = λ e h. absurd (h refl) }; fresh = λ e. absurd (disposed_fresh e); forward = omega arith };
+  acted = record { on = record { attached = refl; attached_lives = λ h. refl; first = refl; disposed = refl; used_up = refl; used_up_once = refl; counted = refl; uncounted = refl }; disposed_known = λ e. refl; used_up_known = λ e. refl; turns = in_order_all 0 (map (λ a. a.1) done) refl };
   rising = refl;
   none = λ e. absurd (disposed_fresh e);
   ends = refl;
@@ -106,8 +107,8 @@ served_1 : IsServed plan program 0 Fresh now (log_of 0 plan program seen ran.eve
 unfolding meaning_of evaluated
 served_1 = record {
   log_is = refl;
-  life = record { window = refl; fresh = λ e. absurd (attached_fresh e); lives = λ h. refl; attached = λ e. absurd (fresh_attached e); attached_lives = λ e h. absurd (fresh_attached e); forward = omega arith };
-  acted = record { attached = refl; attached_lives = λ h. refl; first = refl; disposed = refl; disposed_known = λ e. absurd (false_true e); used_up = refl; used_up_known = λ e. absurd (false_true e); used_up_once = refl; counted = refl; uncounted = refl; turns = refl };
+  life = record { given = record { window = refl; lives = λ h. refl; before = λ e. absurd (fresh_attached e); before_lives = λ e h. absurd (fresh_attached e) }; fresh = λ e. absurd (attached_fresh e); forward = omega arith };
+  acted = record { on = record { attached = refl; attached_lives = λ h. refl; first = refl; disposed = refl; used_up = refl; used_up_once = refl; counted = refl; uncounted = refl }; disposed_known = λ e. absurd (false_true e); used_up_known = λ e. absurd (false_true e); turns = in_order_all 1 (map (λ a. a.1) done) refl };
   rising = refl;
   none = λ e. absurd (attached_fresh e);
   ends = refl;

@@ -1,5 +1,5 @@
 use Rattle.pd_suspend.proofs.Stepping.{counters_see}
-use Rattle.pd_suspend.proofs.Following.{new_is_idle, sees_the_end, sees_one_more, arms_the_step, counts_events, steps_follow_stops}
+use Rattle.pd_suspend.proofs.Following.{new_is_idle, sees_the_end, sees_one_more, arms_the_step, steps_follow_stops}
 use Rattle.pd_suspend.proofs.stepping_law.Goals as goal
 
 pub returns-clause-counters : goal.returns-clause-counters
@@ -16,9 +16,6 @@ returns-clause-more c p past o s t stepping = sees_one_more p past o s t steppin
 
 pub returns-clause-arm : goal.returns-clause-arm
 returns-clause-arm c p past t x at = arms_the_step p past t x at
-
-pub returns-clause-count : goal.returns-clause-count
-returns-clause-count c p past o s stepping = counts_events p past o s stepping
 
 pub returns-clause-steps : goal.returns-clause-steps
 returns-clause-steps c = steps_follow_stops
