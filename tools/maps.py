@@ -135,12 +135,14 @@ def main(words):
         print(__doc__.strip(), file=sys.stderr)
         return 2
     crates, faults = listed.read_crates()
-    if words:
-        write(crates)
-    faults += faults_of(crates)
+    # Where crates.txt isn't in layers, nothing else can be told.
+    if not faults:
+        if words:
+            write(crates)
+        faults = faults_of(crates)
     for it in faults:
         print(f"maps: {it}")
-    print(f"maps: {len(crates)} crates in {max(it.layer for it in crates)} layers, {len(faults)} faults")
+    print(f"maps: crates {len(crates)}, layers {max(it.layer for it in crates)}, faults {len(faults)}")
     return 1 if faults else 0
 
 
