@@ -43,6 +43,8 @@ OF_PLANS = {
     "UnknownMember": "this has a member that it can't have",
     "NotBuilt": "this isn't served",
     "NoSuch": "the plan has none of this number",
+    "NotAnObserver": "the binding of this number is no observer",
+    "BadCondition": "this is no condition",
 }
 # How deep a plan may nest, and how much of a line is shown before and after the place.
 DEEPEST = 127
