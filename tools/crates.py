@@ -47,6 +47,39 @@ def read_crates():
     return crates, faults
 
 
+def in_layers(crates, group_in_page):
+    """Returns crates.txt with each crate behind those that it stands on: its group is that of its row, or else the one that it has, and no lower
+    than those of the crates below. Within a group crates stay in their order as far as may be."""
+    known, waiting, done = {it.name: it for it in crates}, list(crates), []
+    while waiting:
+        free = [it for it in waiting if not any(known.get(dep) in waiting for dep in it.stands_on)]
+        if not free:
+            raise SystemExit(f"crates.txt: {', '.join(it.name for it in waiting)} stand on one another")
+        for it in free:
+            groups = [group_in_page.get(it.name, it.group)] + [known[dep].group for dep in it.stands_on if dep in known]
+            it.group = max(groups, key=GROUPS.index)
+            waiting.remove(it)
+            done.append(it)
+    layered(done)
+    lines = read_text("crates.txt").split("\n")
+    lines = lines[: next(number for number, it in enumerate(lines) if it[2:] in GROUPS)]
+    for group in GROUPS:
+        these = behind_each_other([it for it in crates if it.group == group])
+        lines += [f"# {group}"] * bool(these) + [f"{it.name}: {' '.join(it.stands_on)}".rstrip() for it in these]
+    return "\n".join([*lines, ""])
+
+
+def behind_each_other(crates):
+    """Returns crates of one group, each behind those of them that it stands on."""
+    waiting, order = list(crates), []
+    while waiting:
+        names = {it.name for it in waiting}
+        first = next(it for it in waiting if not names & set(it.stands_on))
+        waiting.remove(first)
+        order.append(first)
+    return order
+
+
 def groups_of(crates):
     """Returns all groups in the order of crates.txt; one that has no crate yet stands before `command`."""
     order = list(dict.fromkeys(it.group for it in crates))

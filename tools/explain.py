@@ -43,6 +43,8 @@ OF_PLANS = {
     "UnknownMember": "this has a member that it can't have",
     "NotBuilt": "this isn't served",
     "NoSuch": "the plan has none of this number",
+    "NotAnObserver": "the binding of this number is no observer",
+    "BadCondition": "this is no condition",
 }
 # How deep a plan may nest, and how much of a line is shown before and after the place.
 DEEPEST = 127
@@ -183,9 +185,22 @@ def text_at(text, it):
     return json.loads(text[it[0] : it[2]])
 
 
-def of_source(words, number, rule, at):
+def file_among(words):
+    """Returns the name of the file among a command's words, of which some may be options."""
+    rest = list(words[1:])
+    while rest:
+        it = rest.pop(0)
+        if it == "--":
+            return rest[0]
+        if it == "--fuel":
+            rest.pop(0)
+        elif not it.startswith("--"):
+            return it
+    return ""
+
+
+def of_source(command, file, number, rule, at):
     """Shows what a source, an export or an entry is refused for."""
-    command, file = words
     if command == "trace":
         if rule == "NoSuchEntry":
             return f"{file}: there is no function `main` in it"
@@ -210,11 +225,12 @@ def explained(message, words):
     of_plans = re.fullmatch(r"polydbg: plan (\w+) at (.*)\n", message, re.S)
     of_sources = re.fullmatch(r"polydbg: source (\d+) (\w+) at (\d+)\n", message)
     unread = re.fullmatch(r"polydbg: cannot read (.*)\n", message, re.S)
+    file = file_among(words)
     if of_plans:
-        return of_plan(words[1], read(words[1]), *of_plans.groups())
+        return of_plan(file, read(file), *of_plans.groups())
     if of_sources:
-        return of_source(words, int(of_sources[1]), of_sources[2], int(of_sources[3]))
-    if unread and words[0] != "trace" and unread[1] != words[1]:
+        return of_source(words[0], file, int(of_sources[1]), of_sources[2], int(of_sources[3]))
+    if unread and words[0] != "trace" and unread[1] != file:
         return f"polydbg: the plan names this source; a name that doesn't begin with / is looked for from the current folder, {os.getcwd()}"
     return ""
 

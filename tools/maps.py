@@ -4,6 +4,7 @@
   tools/maps.py            names each fault, and ends with status 1 where there is one
   tools/maps.py --write    puts the rows of docs/ARCHITECTURE.md and docs/PROOFS.md in order, and writes the layers, the reading list in
                            docs/PROOFS.md and docs/layers.svg
+  tools/maps.py --sort     puts the lines of crates.txt in layers, in the groups that the rows of docs/ARCHITECTURE.md have
 
 crates.txt has the crates in groups and layers, lowest first, and each dependency is named in the crate's code, definitions or proofs.
 docs/ARCHITECTURE.md has one row for each crate, in the heading of its group and with its layer; docs/PROOFS.md has one row for each.
@@ -131,16 +132,21 @@ def put(path, text):
 
 
 def main(words):
-    if words not in ([], ["--write"]):
+    if words not in ([], ["--write"], ["--sort"]):
         print(__doc__.strip(), file=sys.stderr)
         return 2
     crates, faults = listed.read_crates()
-    if words:
-        write(crates)
-    faults += faults_of(crates)
+    if words == ["--sort"]:
+        put("crates.txt", listed.in_layers(crates, {name: group for _, group, name, _ in rows_of("docs/ARCHITECTURE.md")}))
+        return 0
+    # Where crates.txt isn't in layers, nothing else can be told.
+    if not faults:
+        if words:
+            write(crates)
+        faults = faults_of(crates)
     for it in faults:
         print(f"maps: {it}")
-    print(f"maps: {len(crates)} crates in {max(it.layer for it in crates)} layers, {len(faults)} faults")
+    print(f"maps: crates {len(crates)}, layers {max(it.layer for it in crates)}, faults {len(faults)}")
     return 1 if faults else 0
 
 

@@ -106,7 +106,7 @@ def main(words):
         faults += 1
         print(f"prints: demo/{it} has no demo/{it}.txt, and no plan names it")
     blocks = sum(len(BLOCK.findall(listed.read_text(it))) for it in pages())
-    print(f"prints: {len(demos()[0])} demos and {blocks} blocks of the documents, {faults} faults")
+    print(f"prints: demos {len(demos()[0])}, blocks of the documents {blocks}, faults {faults}")
     return 1 if faults else 0
 
 
