@@ -1,11 +1,10 @@
 -- Definition, which public contracts cite.
 -- The report of a plan's run.
-use Rattle.std.specs.Prelude.{◌≡◌, ℕ, suc, ◌<◌, true, List, [], ◌∷◌, map, length, flat_map, slice_index, slice_index_or, slice_get, Option, None, Some}
+use Rattle.std.specs.Prelude.{◌≡◌, ℕ, suc, ◌<◌, true, List, [], ◌∷◌, map, length, flat_map, slice_index, slice_index_or}
 use Rattle.std.specs.List.{All, list_all, filter_map}
 use Rattle.pd_tree.specs.Program.{Program}
 use Rattle.pd_machine.specs.Events.{Told}
 use Rattle.pd_meaning.specs.Meaning.{Ran, meaning_of}
-use Rattle.pd_plan.specs.declared.plan.ContextSpec.{ContextSpec}
 use Rattle.pd_plan.specs.declared.plan.Plan.{Plan}
 use Rattle.pd_plan.specs.declared.plan.Script.{Script}
 use Rattle.pd_board.specs.Tally.{no_tally}
@@ -15,7 +14,7 @@ use Rattle.pd_suspend.specs.Answers.{scripted, Carries, numbers_in}
 use Rattle.pd_suspend.specs.declared.context.ContextRecord.{ContextRecord}
 use Rattle.pd_record.specs.Logs.{log_of}
 use Rattle.pd_record.specs.Seen.{IsSeen, is_end_met}
-use Rattle.pd_record.specs.Record.{IsRunOf, setting_of}
+use Rattle.pd_record.specs.Record.{fuel_at, IsRunOf, setting_of}
 use Rattle.pd_shared.specs.declared.sights.Sights.{Sights}
 use Rattle.pd_shared.specs.Book.{reads_at}
 use Rattle.pd_run.specs.declared.report.Report.{Report}
@@ -28,14 +27,9 @@ use Rattle.pd_session.specs.Results.{act_in, AreResults, Readings}
 
 -- ---- contexts
 
--- the fuel of a context; 0 where there is none
-abbrev pub fuel_of : Option ContextSpec → ℕ
-fuel_of None = 0
-fuel_of (Some c) = c.fuel
-
 -- what context c does: the meaning of the program from its entry, with its fuel, under the verdicts that its suspensions were answered
 abbrev pub ran_of : Plan → Program → ℕ → ContextRecord → Ran
-ran_of plan p c r = meaning_of p (slice_index p.entries c) (fuel_of (slice_get plan.contexts c)) (verdicts_of r.stops)
+ran_of plan p c r = meaning_of p (slice_index p.entries c) (fuel_at plan c) (verdicts_of r.stops)
 
 abbrev pub events_of : Plan → Program → ℕ → ContextRecord → List Told
 events_of plan p c r = (ran_of plan p c r).events
