@@ -1,9 +1,10 @@
 -- Definition: the record of one context: its run is what the program means under the verdicts that were answered, each binding's log is what
 -- was seen of it, and its suspensions stand where breakpoints, steps and halts put them.
-use Rattle.std.specs.Prelude.{◌≡◌, ℕ, ◌<◌, true, List, [], ◌++◌, length, map, slice_index_or}
+use Rattle.std.specs.Prelude.{◌≡◌, ℕ, ◌<◌, true, List, [], ◌++◌, length, map, slice_get, slice_index_or, Option, None, Some}
 use Rattle.pd_tree.specs.Program.{Program}
 use Rattle.pd_machine.specs.Events.{Told}
 use Rattle.pd_meaning.specs.Meaning.{Ran, meaning_of}
+use Rattle.pd_plan.specs.declared.plan.ContextSpec.{ContextSpec}
 use Rattle.pd_plan.specs.declared.plan.Plan.{Plan}
 use Rattle.pd_board.specs.declared.answers.Sight.{Sight}
 use Rattle.pd_board.specs.Standing.{Standing}
@@ -16,6 +17,15 @@ use Rattle.pd_record.specs.Life.{rises}
 use Rattle.pd_record.specs.Seen.{IsSeen}
 use Rattle.pd_record.specs.Served.{IsServed}
 use Rattle.pd_record.specs.Replies.{owed_of, HasGrownBy}
+
+-- the fuel of a context; 0 where there is none
+abbrev pub fuel_of : Option ContextSpec → ℕ
+fuel_of None = 0
+fuel_of (Some c) = c.fuel
+
+-- the fuel of the plan's context with this number; 0 where there is none
+abbrev pub fuel_at : Plan → ℕ → ℕ
+fuel_at plan context = fuel_of (slice_get plan.contexts context)
 
 -- the record's run is this one
 pub record IsRunOf (ran : Ran) (r : ContextRecord) : Type 0 where
