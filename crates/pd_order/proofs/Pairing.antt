@@ -73,37 +73,37 @@ paired-push ts t number opened p = record {
 abbrev Stands : List Told → Event → Type 0
 Stands ts o = IsEnteredAt ts o.node o.number
 
-end_opened : (ts : List Told) (kind : EventKind) (e : Event) (open_ones : List Event) → Fits kind e open_ones → All (Stands ts) open_ones → IsEnd kind → IsEnteredAt ts e.node e.opened
-end_opened ts Enter e open_ones fits stand end = absurd end
+end_opened : (ts : List Told) (kind : EventKind) (e : Event) (live : List Event) → Fits kind e live → All (Stands ts) live → IsEnd kind → IsEnteredAt ts e.node e.opened
+end_opened ts Enter e live fits stand end = absurd end
 end_opened ts (Return a) e [] fits stand end = absurd fits
-end_opened ts (Return a) e (o ∷ open_ones) fits stand end = subst (IsEnteredAt ts e.node) (sym fits.0) (subst (λ n. IsEnteredAt ts n o.number) (sym fits.1) (All-head (Stands ts) o open_ones stand))
+end_opened ts (Return a) e (o ∷ live) fits stand end = subst (IsEnteredAt ts e.node) (sym fits.0) (subst (λ n. IsEnteredAt ts n o.number) (sym fits.1) (All-head (Stands ts) o live stand))
 end_opened ts (Leave c) e [] fits stand end = absurd fits
-end_opened ts (Leave c) e (o ∷ open_ones) fits stand end = subst (IsEnteredAt ts e.node) (sym fits.0) (subst (λ n. IsEnteredAt ts n o.number) (sym fits.1) (All-head (Stands ts) o open_ones stand))
+end_opened ts (Leave c) e (o ∷ live) fits stand end = subst (IsEnteredAt ts e.node) (sym fits.0) (subst (λ n. IsEnteredAt ts n o.number) (sym fits.1) (All-head (Stands ts) o live stand))
 
-all_dropped : (P : Event → Type 0) (open_ones : List Event) → All P open_ones → All P (drop 1 open_ones)
+all_dropped : (P : Event → Type 0) (live : List Event) → All P live → All P (drop 1 live)
 all_dropped P [] h = h
-all_dropped P (o ∷ open_ones) h = All-tail P o open_ones h
+all_dropped P (o ∷ live) h = All-tail P o live h
 
-open_stand : (ts : List Told) (t : Told) (kind : EventKind) (open_ones : List Event) → kind ≡ t.event.kind → t.event.number ≡ length ts → All (Stands ts) open_ones → All (Stands (ts ++ t ∷ [])) (open_with kind t.event open_ones)
-open_stand ts t Enter open_ones same number stand =
-    All-cons (Stands (ts ++ t ∷ [])) t.event open_ones
+open_stand : (ts : List Told) (t : Told) (kind : EventKind) (live : List Event) → kind ≡ t.event.kind → t.event.number ≡ length ts → All (Stands ts) live → All (Stands (ts ++ t ∷ [])) (open_with kind t.event live)
+open_stand ts t Enter live same number stand =
+    All-cons (Stands (ts ++ t ∷ [])) t.event live
     (record { enter = t; there = ap (slice_get (ts ++ t ∷ [])) number ∙ get-new ts t; kind_is = sym same; node_is = refl })
-    (All-weaker (Stands ts) (Stands (ts ++ t ∷ [])) (λ o h. entered_kept ts t o.node o.number h) open_ones stand)
-open_stand ts t (Return a) open_ones same number stand =
-    all_dropped (Stands (ts ++ t ∷ [])) open_ones (All-weaker (Stands ts) (Stands (ts ++ t ∷ [])) (λ o h. entered_kept ts t o.node o.number h) open_ones stand)
-open_stand ts t (Leave c) open_ones same number stand =
-    all_dropped (Stands (ts ++ t ∷ [])) open_ones (All-weaker (Stands ts) (Stands (ts ++ t ∷ [])) (λ o h. entered_kept ts t o.node o.number h) open_ones stand)
+    (All-weaker (Stands ts) (Stands (ts ++ t ∷ [])) (λ o h. entered_kept ts t o.node o.number h) live stand)
+open_stand ts t (Return a) live same number stand =
+    all_dropped (Stands (ts ++ t ∷ [])) live (All-weaker (Stands ts) (Stands (ts ++ t ∷ [])) (λ o h. entered_kept ts t o.node o.number h) live stand)
+open_stand ts t (Leave c) live same number stand =
+    all_dropped (Stands (ts ++ t ∷ [])) live (All-weaker (Stands ts) (Stands (ts ++ t ∷ [])) (λ o h. entered_kept ts t o.node o.number h) live stand)
 
-paired_after : (past ts : List Told) (open_ones : List Event) → AreInOrderFrom (length past) open_ones ts → All (Stands past) open_ones → IsPaired past → IsPaired (past ++ ts)
-paired_after past [] open_ones h stand p = subst IsPaired (sym (append-nil past)) p
-paired_after past (t ∷ ts) open_ones h stand p =
+paired_after : (past ts : List Told) (live : List Event) → AreInOrderFrom (length past) live ts → All (Stands past) live → IsPaired past → IsPaired (past ++ ts)
+paired_after past [] live h stand p = subst IsPaired (sym (append-nil past)) p
+paired_after past (t ∷ ts) live h stand p =
     let number : t.event.number ≡ length past = h.0.0 in
-    let next = open_with t.event.kind t.event open_ones in
+    let next = open_with t.event.kind t.event live in
     let size : suc (length past) ≡ length (past ++ t ∷ []) = omega (arith, length_push past t) in
     subst IsPaired (append_assoc past (t ∷ []) ts)
     (paired_after (past ++ t ∷ []) ts next (subst (λ n. AreInOrderFrom n next ts) size h.1)
-    (open_stand past t t.event.kind open_ones refl number stand)
-    (paired-push past t number (end_opened past t.event.kind t.event open_ones h.0.1 stand) p))
+    (open_stand past t t.event.kind live refl number stand)
+    (paired-push past t number (end_opened past t.event.kind t.event live h.0.1 stand) p))
 
 none_paired : IsPaired []
 none_paired = record { numbers = λ k t h. absurd (cc); ends_named = λ k t h e. absurd (cc) }
