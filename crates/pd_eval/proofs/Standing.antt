@@ -153,16 +153,16 @@ over_means p fuel root entry es kept m item over s =
 -- ---- what a run's calls say
 
 pub served_stands : (p : Program) (r : Result (Unit {0}) AllocError) (es es' : List Told) (kept kept' : Verdicts) (m m' m'' : Held) (x : Event) (going : IsOver m → ⊥) (turned : HasTurned p m m' (Tells x)) → IfOk r (λ _. es' ≡ es ++ record { event = x; scene = standing x.node (scene_of m') } ∷ []) → IfOk r (λ _. (v : Verdict) × (kept' ≡ keep kept x.number v) × HasObeyed p x v m' m'') → IfOk r (λ _. (fuel root : ℕ) → Stands p fuel root es kept m → Stands p fuel root es' kept' m'')
-served_stands p (Err e) es es' kept kept' m m' m'' x going turned told answered = tt
-served_stands p (Ok u) es es' kept kept' m m' m'' x going turned told answered = λ fuel root s.
+served_stands p (Err e) es es' kept kept' m m' m'' x going turned heard answered = tt
+served_stands p (Ok u) es es' kept kept' m m' m'' x going turned heard answered = λ fuel root s.
     subst (λ ks. Stands p fuel root es' ks m'') (sym answered.1)
-    (subst (λ zs. Stands p fuel root zs (keep kept x.number answered.0) m'') (sym told)
+    (subst (λ zs. Stands p fuel root zs (keep kept x.number answered.0) m'') (sym heard)
     (told_stands p fuel root es kept m going m' m'' x answered.0 turned answered.2 s.count s.below s))
 
 pub served_lowers : (p : Program) (r : Result (Unit {0}) AllocError) (es es' : List Told) (kept kept' : Verdicts) (m m' m'' : Held) (x : Event) (going : IsOver m → ⊥) (counted : IsCounted es kept m) (turned : HasTurned p m m' (Tells x)) → IfOk r (λ _. es' ≡ es ++ record { event = x; scene = standing x.node (scene_of m') } ∷ []) → IfOk r (λ _. (v : Verdict) × (kept' ≡ keep kept x.number v) × HasObeyed p x v m' m'') → IfOk r (λ _. weight (with_events m'' es') < weight (with_events m es))
-served_lowers p (Err e) es es' kept kept' m m' m'' x going counted turned told answered = tt
-served_lowers p (Ok u) es es' kept kept' m m' m'' x going counted turned told answered =
-    subst (λ zs. weight (with_events m'' zs) < weight (with_events m es)) (sym told)
+served_lowers p (Err e) es es' kept kept' m m' m'' x going counted turned heard answered = tt
+served_lowers p (Ok u) es es' kept kept' m m' m'' x going counted turned heard answered =
+    subst (λ zs. weight (with_events m'' zs) < weight (with_events m es)) (sym heard)
     (told_lowers p 0 0 es kept m going m' m'' x answered.0 turned answered.2 counted.0 counted.1)
 
 -- the answer of a run that is over

@@ -27,7 +27,7 @@ pub struct Ran {
 }
 
 /// Runs a program from an item with so much fuel, at most 16,777,216, under a watcher that was told nothing before and
-/// counts on the program's number of nodes.
+/// is ready for a program of so many nodes.
 /// Where it answers, the watcher was told exactly the events that the program means under the verdicts that it keeps,
 /// and the answer is the output, the end, the fuel used and the number of events that it means. Where memory runs out,
 /// or the watcher errs, it gives `AllocError`, and the watcher has been told some events. In each case what the

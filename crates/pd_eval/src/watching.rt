@@ -36,8 +36,9 @@ pub trait Watcher {
     // It has served each event so far.
     ghost ready: { Self → Type 0 };
 
-    /// The next event of the run, with the frames at it. Its number is that of the events before it; an end is that of
-    /// the innermost open activation. After an error no event is told any more.
+    /// The next event of the run, with the frames at it. Its number, below 2^25, is how many events were told before; an
+    /// end is that of the innermost open activation; its depth is the number of frames; it and its frames stand at nodes
+    /// of the program. After an error no event is told any more.
     fn event(&mut self, event: &Event, scene: &Scene<'_>) -> Result<Verdict, AllocError>
         requires ready { Self.ready self.old }
         requires next { IsNext (events self.old) event.now }

@@ -78,32 +78,32 @@ rising_length low count (n ∷ ns) fits h k l =
 
 -- ---- the open activations
 
-fits_end : (kind : EventKind) (e : Event) (open_ones : List Event) → is_enter kind ≡ false → Fits kind e open_ones → IsEndOf e open_ones
-fits_end Enter e open_ones h f = cc
-fits_end (Return a) e open_ones h f = f
-fits_end (Leave c) e open_ones h f = f
+fits_end : (kind : EventKind) (e : Event) (live : List Event) → is_enter kind ≡ false → Fits kind e live → IsEndOf e live
+fits_end Enter e live h f = cc
+fits_end (Return a) e live h f = f
+fits_end (Leave c) e live h f = f
 
-pub fits_enter : (kind : EventKind) (e : Event) (open_ones : List Event) → is_enter kind ≡ true → Fits kind e open_ones → e.opened ≡ e.number
-fits_enter Enter e open_ones h f = f
-fits_enter (Return a) e open_ones h f = cc
-fits_enter (Leave c) e open_ones h f = cc
+pub fits_enter : (kind : EventKind) (e : Event) (live : List Event) → is_enter kind ≡ true → Fits kind e live → e.opened ≡ e.number
+fits_enter Enter e live h f = f
+fits_enter (Return a) e live h f = cc
+fits_enter (Leave c) e live h f = cc
 
-enter_opens : (kind : EventKind) (e : Event) (open_ones : List Event) → is_enter kind ≡ true → open_with kind e open_ones ≡ e ∷ open_ones
-enter_opens Enter e open_ones h = refl
-enter_opens (Return a) e open_ones h = cc
-enter_opens (Leave c) e open_ones h = cc
+enter_opens : (kind : EventKind) (e : Event) (live : List Event) → is_enter kind ≡ true → open_with kind e live ≡ e ∷ live
+enter_opens Enter e live h = refl
+enter_opens (Return a) e live h = cc
+enter_opens (Leave c) e live h = cc
 
-end_closes : (kind : EventKind) (e : Event) (open_ones : List Event) → is_enter kind ≡ false → open_with kind e open_ones ≡ drop 1 open_ones
-end_closes Enter e open_ones h = cc
-end_closes (Return a) e open_ones h = refl
-end_closes (Leave c) e open_ones h = refl
+end_closes : (kind : EventKind) (e : Event) (live : List Event) → is_enter kind ≡ false → open_with kind e live ≡ drop 1 live
+end_closes Enter e live h = cc
+end_closes (Return a) e live h = refl
+end_closes (Leave c) e live h = refl
 
 numbers_pushed : (opens : List Opened) (o : Opened) → reverse (map (λ x. x.event) (opens ++ o ∷ [])) ≡ o.event ∷ reverse (map (λ x. x.event) opens)
 numbers_pushed opens o = ap reverse (map_push (λ (x : Opened). x.event) opens o) ∙ reverse-append (map (λ x. x.event) opens) (o.event ∷ [])
 
-innermost : (e : Event) (open_ones : List Event) (m : ℕ) (ms : List ℕ) → map (λ x. x.number) open_ones ≡ m ∷ ms → IsEndOf e open_ones → e.opened ≡ m
+innermost : (e : Event) (live : List Event) (m : ℕ) (ms : List ℕ) → map (λ x. x.number) live ≡ m ∷ ms → IsEndOf e live → e.opened ≡ m
 innermost e [] m ms h f = absurd f
-innermost e (o ∷ open_ones) m ms h f = let same : o.number ≡ m = cc in f.0 ∙ same
+innermost e (o ∷ live) m ms h f = let same : o.number ≡ m = cc in f.0 ∙ same
 
 -- an end closes the last of those that are kept
 pub end_is_last : (ts : List Told) (e : Event) (opens rest : List Opened) (o : Opened) → map (λ x. x.number) (open_after [] ts) ≡ reverse (map (λ x. x.event) opens)
@@ -112,9 +112,9 @@ end_is_last ts e opens rest o same split end fits =
     innermost e (open_after [] ts) o.event (reverse (map (λ x. x.event) rest)) (same ∙ ap (λ xs. reverse (map (λ x. x.event) xs)) split ∙ numbers_pushed rest o)
     (fits_end e.kind e (open_after [] ts) end fits)
 
-none_open : (e : Event) (open_ones : List Event) → map (λ x. x.number) open_ones ≡ [] → IsEndOf e open_ones → ⊥
+none_open : (e : Event) (live : List Event) → map (λ x. x.number) live ≡ [] → IsEndOf e live → ⊥
 none_open e [] h f = f
-none_open e (o ∷ open_ones) h f = cc
+none_open e (o ∷ live) h f = cc
 
 -- there is one
 pub end_has_one : (ts : List Told) (e : Event) (opens : List Opened) → map (λ x. x.number) (open_after [] ts) ≡ reverse (map (λ x. x.event) opens)

@@ -1,13 +1,11 @@
 -- Of the frames at an event each is of a node of the program, and stands at one.
-use Rattle.std.proofs.Common.{◌≡◌, ℕ, zero, suc, ◌-◌, ◌<◌, Bool, true, false, List, [], ◌∷◌, length, Option, Some, None, refl, subst, ap, ◌∙◌, arith}
+use Rattle.std.proofs.Common.{◌≡◌, ℕ, zero, suc, ◌-◌, ◌<◌, Bool, true, false, List, [], ◌∷◌, length, Option, Some, None, refl, subst}
 use Rattle.std.specs.Prelude.{slice_get, nat_lt, cond}
 use Rattle.std.specs.List.{All}
 use Rattle.std.proofs.lemmas.Option.{same_Some}
 use Rattle.std.proofs.lemmas.List.Elements.{All-head, All-tail}
-use Rattle.pd_machine.specs.declared.event.Event.{Event}
 use Rattle.pd_machine.specs.declared.run.Frame.{Frame}
-use Rattle.pd_machine.specs.Events.{Scene, at_of, frame_of, root_of}
-use Rattle.pd_order.specs.Order.{IsPlaced}
+use Rattle.pd_machine.specs.Events.{at_of, frame_of, root_of}
 
 of_all : {X : Type 0} (Q : X → Type 0) (xs : List X) (k : ℕ) (x : X) → All Q xs → slice_get xs k ≡ Some x → Q x
 of_all Q [] k x h e = absurd (cc)

@@ -14,25 +14,25 @@ use Rattle.pd_order.specs.Standing.{FrameIs, place_of}
 
 -- ---- one more event
 
-pub open_push : (open_ones : List Event) (ts : List Told) (t : Told) → open_after open_ones (ts ++ t ∷ []) ≡ open_with t.event.kind t.event (open_after open_ones ts)
-open_push open_ones [] t = refl
-open_push open_ones (x ∷ ts) t = open_push (open_with x.event.kind x.event open_ones) ts t
+pub open_push : (live : List Event) (ts : List Told) (t : Told) → open_after live (ts ++ t ∷ []) ≡ open_with t.event.kind t.event (open_after live ts)
+open_push live [] t = refl
+open_push live (x ∷ ts) t = open_push (open_with x.event.kind x.event live) ts t
 
-order_more : (n : ℕ) (open_ones : List Event) (ts : List Told) (t : Told) → AreInOrderFrom n open_ones ts → IsNextAt (n + length ts) (open_after open_ones ts) t.event → AreInOrderFrom n open_ones (ts ++ t ∷ [])
-order_more n open_ones [] t h k =
+order_more : (n : ℕ) (live : List Event) (ts : List Told) (t : Told) → AreInOrderFrom n live ts → IsNextAt (n + length ts) (open_after live ts) t.event → AreInOrderFrom n live (ts ++ t ∷ [])
+order_more n live [] t h k =
     let e : n + length {A = Told} [] ≡ n = omega arith in
-    (subst (λ m. IsNextAt m open_ones t.event) e k, tt)
-order_more n open_ones (x ∷ ts) t h k =
-    let rest = open_with x.event.kind x.event open_ones in
+    (subst (λ m. IsNextAt m live t.event) e k, tt)
+order_more n live (x ∷ ts) t h k =
+    let rest = open_with x.event.kind x.event live in
     let e : n + length (x ∷ ts) ≡ suc n + length ts = omega arith in
     (h.0, order_more (suc n) rest ts t h.1 (subst (λ m. IsNextAt m (open_after rest ts) t.event) e k))
 
-order_last : (n : ℕ) (open_ones : List Event) (ts : List Told) (t : Told) → AreInOrderFrom n open_ones (ts ++ t ∷ []) → IsNextAt (n + length ts) (open_after open_ones ts) t.event
-order_last n open_ones [] t h =
+order_last : (n : ℕ) (live : List Event) (ts : List Told) (t : Told) → AreInOrderFrom n live (ts ++ t ∷ []) → IsNextAt (n + length ts) (open_after live ts) t.event
+order_last n live [] t h =
     let e : n ≡ n + length {A = Told} [] = omega arith in
-    subst (λ m. IsNextAt m open_ones t.event) e h.0
-order_last n open_ones (x ∷ ts) t h =
-    let rest = open_with x.event.kind x.event open_ones in
+    subst (λ m. IsNextAt m live t.event) e h.0
+order_last n live (x ∷ ts) t h =
+    let rest = open_with x.event.kind x.event live in
     let e : suc n + length ts ≡ n + length (x ∷ ts) = omega arith in
     subst (λ m. IsNextAt m (open_after rest ts) t.event) e (order_last (suc n) rest ts t h.1)
 
@@ -49,11 +49,11 @@ last_is_next ts t h =
     subst (λ m. IsNextAt m (open_after [] ts) t.event) e (order_last 0 [] ts t h)
 
 -- what waits on top is the innermost that is open
-pub ends_innermost : (e : Event) (waits : List (ℕ × ℕ)) (open_ones : List Event) → (e.node, e.opened) ∷ waits ≡ map place_of open_ones → IsEndOf e open_ones × (waits ≡ map place_of (drop 1 open_ones))
+pub ends_innermost : (e : Event) (waits : List (ℕ × ℕ)) (live : List Event) → (e.node, e.opened) ∷ waits ≡ map place_of live → IsEndOf e live × (waits ≡ map place_of (drop 1 live))
 ends_innermost e waits [] h = absurd (cc)
-ends_innermost e waits (o ∷ open_ones) h =
+ends_innermost e waits (o ∷ live) h =
     let top : (e.node, e.opened) ≡ place_of o = cc in
-    let rest : waits ≡ map place_of open_ones = cc in
+    let rest : waits ≡ map place_of live = cc in
     ((ap (λ x. x.1) top, ap (λ x. x.0) top), rest)
 
 -- ---- the last of all

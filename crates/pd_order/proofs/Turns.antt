@@ -43,15 +43,15 @@ abbrev IsEnd : EventKind → Type 0
 IsEnd Enter = ⊥
 IsEnd _ = Unit {0}
 
-end_fits : (kind : EventKind) (e : Event) (open_ones : List Event) → IsEnd kind → IsEndOf e open_ones → Fits kind e open_ones
-end_fits Enter e open_ones end h = absurd end
-end_fits (Gave a) e open_ones end h = h
-end_fits (Leave c) e open_ones end h = h
+end_fits : (kind : EventKind) (e : Event) (live : List Event) → IsEnd kind → IsEndOf e live → Fits kind e live
+end_fits Enter e live end h = absurd end
+end_fits (Gave a) e live end h = h
+end_fits (Leave c) e live end h = h
 
-end_closes : (kind : EventKind) (e : Event) (open_ones : List Event) → IsEnd kind → open_with kind e open_ones ≡ drop 1 open_ones
-end_closes Enter e open_ones end = absurd end
-end_closes (Gave a) e open_ones end = refl
-end_closes (Leave c) e open_ones end = refl
+end_closes : (kind : EventKind) (e : Event) (live : List Event) → IsEnd kind → open_with kind e live ≡ drop 1 live
+end_closes Enter e live end = absurd end
+end_closes (Gave a) e live end = refl
+end_closes (Leave c) e live end = refl
 
 -- a node of another kind than the one that stands for no node is one of the program
 kind_inside : (p : Program) (n : ℕ) → ((node_at p n).kind ≡ PlEmpty → ⊥) → n < length p.nodes

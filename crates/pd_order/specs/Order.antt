@@ -13,29 +13,29 @@ use Rattle.pd_meaning.specs.Meaning.{Verdicts, meaning_of}
 
 -- those that are open after an event: an Enter opens one more, and an end closes the innermost
 abbrev pub open_with : EventKind → Event → List Event → List Event
-open_with Enter e open_ones = e ∷ open_ones
-open_with _ e open_ones = drop 1 open_ones
+open_with Enter e live = e ∷ live
+open_with _ e live = drop 1 live
 
 -- those that are open after these events
 abbrev pub open_after : List Event → List Told → List Event
-open_after open_ones [] = open_ones
-open_after open_ones (t ∷ ts) = open_after (open_with t.event.kind t.event open_ones) ts
+open_after live [] = live
+open_after live (t ∷ ts) = open_after (open_with t.event.kind t.event live) ts
 
 -- ---- events in order
 
 -- an event is the end of the innermost of these activations, at the same node
 abbrev pub IsEndOf : Event → List Event → Type 0
 IsEndOf e [] = ⊥
-IsEndOf e (o ∷ open_ones) = (e.opened ≡ o.number) × (e.node ≡ o.node)
+IsEndOf e (o ∷ live) = (e.opened ≡ o.number) × (e.node ≡ o.node)
 
 -- an Enter begins an activation, which has its number; an end is that of the innermost activation
 abbrev pub Fits : EventKind → Event → List Event → Type 0
-Fits Enter e open_ones = e.opened ≡ e.number
-Fits _ e open_ones = IsEndOf e open_ones
+Fits Enter e live = e.opened ≡ e.number
+Fits _ e live = IsEndOf e live
 
 -- an event may be the next one where so many came before it and these activations are open
 abbrev pub IsNextAt : ℕ → List Event → Event → Type 0
-IsNextAt n open_ones e = (e.number ≡ n) × Fits e.kind e open_ones
+IsNextAt n live e = (e.number ≡ n) × Fits e.kind e live
 
 -- an event may be the next one after these
 abbrev pub IsNext : List Told → Event → Type 0
@@ -43,8 +43,8 @@ IsNext ts e = IsNextAt (length ts) (open_after [] ts) e
 
 -- events from number n on are in order, where these activations are open
 abbrev pub AreInOrderFrom : ℕ → List Event → List Told → Type 0
-AreInOrderFrom n open_ones [] = Unit {0}
-AreInOrderFrom n open_ones (t ∷ ts) = IsNextAt n open_ones t.event × AreInOrderFrom (suc n) (open_with t.event.kind t.event open_ones) ts
+AreInOrderFrom n live [] = Unit {0}
+AreInOrderFrom n live (t ∷ ts) = IsNextAt n live t.event × AreInOrderFrom (suc n) (open_with t.event.kind t.event live) ts
 
 -- each of these events may be the next one after those before it
 abbrev pub AreInOrder : List Told → Type 0
