@@ -6,9 +6,11 @@ ghost use Rattle.run_cases.specs.Answering as answering;
 ghost use Rattle.run_cases.specs.Answering.{kept_from};
 
 use crate::case::{Answer, Asked, Case};
+use crate::conditions::write_truth;
 use pd_eval::Watcher;
-use pd_observing::Heard;
 use pd_machine::{Cause, Event, EventKind, Scene, Verdict};
+use pd_observing::Heard;
+use pd_plan::Condition;
 use pd_tree::Program;
 use pd_values::{NodeId, Value};
 use std::alloc::{AllocError, Global};
@@ -19,18 +21,25 @@ use std::fmt::Write;
 pub struct Recorder<'a> {
     program: &'a Program,
     case: &'a Case,
+    condition: Option<&'a Condition>,
     text: String,
     heard: Heard,
 }
 
 impl<'a> Recorder<'a> {
     /// No event was told.
-    pub fn new(alloc: Global, program: &'a Program, case: &'a Case) -> Recorder<'a>
+    pub fn new(
+        alloc: Global,
+        program: &'a Program,
+        case: &'a Case,
+        condition: Option<&'a Condition>,
+    ) -> Recorder<'a>
         ensures { result.heard.events ≡ [] }
     {
         Recorder {
             program,
             case,
+            condition,
             text: String::new(alloc),
             heard: Heard::nothing(),
         }
@@ -56,6 +65,9 @@ impl Watcher for Recorder<'_> {
         if !self.case.quiet {
             write_event(&mut self.text, event)?;
             write_frames(&mut self.text, self.program, scene)?;
+        }
+        if let Some(condition) = self.condition {
+            write_truth(&mut self.text, self.program, condition, event, scene)?;
         }
         let verdict = verdict_at(self.case.asked.as_slice(), event.number);
         self.heard = Heard::and(&self.heard, event, scene);
