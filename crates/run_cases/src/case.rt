@@ -25,6 +25,8 @@ pub struct Case {
     pub asked: Vec<Asked>,
     /// Whether the events aren't printed.
     pub quiet: bool,
+    /// The text of a condition that is tested wherever a statement begins.
+    pub condition: Option<Vec<u8>>,
     pub source: Vec<u8>,
 }
 
@@ -47,13 +49,30 @@ pub fn case_of(alloc: Global, line: &str) -> Result<Option<Case>, AllocError> {
     let Ok(fuel) = fuel.parse::<u32>() else {
         return Ok(None);
     };
+    let (condition, source) = condition_of(alloc, answers, source)?;
     Ok(Some(Case {
         language,
         fuel,
         asked: answers_of(alloc, answers)?,
-        quiet: answers == "quiet",
+        quiet: answers == "quiet" || condition.is_some(),
+        condition,
         source: meant(alloc, source)?,
     }))
+}
+
+/// The condition of a line, which stands before the source as a line of its own, and the source.
+fn condition_of<'a>(
+    alloc: Global,
+    answers: &str,
+    source: &'a str,
+) -> Result<(Option<Vec<u8>>, &'a str), AllocError> {
+    if answers != "test" {
+        return Ok((None, source));
+    }
+    match source.split_once("\\n") {
+        Some((condition, rest)) => Ok((Some(meant(alloc, condition)?), rest)),
+        None => Ok((None, source)),
+    }
 }
 
 /// The answers that these words ask for; a word that asks for none is left out.
@@ -92,7 +111,7 @@ fn kind_of(word: &str) -> Option<Answer> {
 }
 
 /// The bytes that the source of a line means.
-fn meant(alloc: Global, source: &str) -> Result<Vec<u8>, AllocError> {
+pub fn meant(alloc: Global, source: &str) -> Result<Vec<u8>, AllocError> {
     let mut bytes = Vec::new(alloc);
     let mut escaped = false;
     for byte in source.as_bytes() {

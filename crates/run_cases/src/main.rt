@@ -1,19 +1,24 @@
 //! Runs the program of each line of the input, and prints all of its run: the events with their frames, the output, the
 //! end, the fuel used. A line has a language (`sl` or `pl0`), the fuel, answers to events, and the source, with one space
-//! between. Answers are `-`, or some as `18:reenter:0`, `18:return:1:9` and `25:kill`, with `,` between, or `quiet`, which leaves the events out. In the source `\n`
-//! and `\\` mean what they say. What it must print for the lines of `stdin` stands in `stdout`, made by a separate
+//! between. Answers are `-`, or some as `18:reenter:0`, `18:return:1:9` and `25:kill`, with `,` between, or `quiet`, which leaves the events out, or
+//! `test`: then the source has a condition as a line of its own before it, and what the condition comes to is printed
+//! wherever a statement begins, with the statement's line, in place of the events. In the source `\n`
+//! and `\\` mean what they say. A line `condition TEXT` has the text of a condition, which is printed as a tree, or its
+//! refusal. What it must print for the lines of `stdin` stands in `stdout`, made by a separate
 //! interpreter of the rules, not by this program.
 #![tactic(auto)]
 
 mod case;
+mod conditions;
 mod loading;
 mod recorder;
 
-use crate::case::{Case, case_of};
+use crate::case::{Case, case_of, meant};
+use crate::conditions::{Reading, reading_of, write_reading};
 use crate::loading::program_of;
 use crate::recorder::{Recorder, write_value};
 use pd_eval::{Ran, run};
-use pd_plan::Language;
+use pd_plan::{Condition, Language};
 use pd_tree::Program;
 use pd_values::End;
 use std::alloc::AllocError;
@@ -67,10 +72,15 @@ fn entry_of(program: &Program, language: Language) -> u32 {
 }
 
 /// Runs the program of a line.
-fn run_case(rt: &HostRuntime, case: &Case, program: &Program) -> io::Result<()> {
+fn run_case<'a>(
+    rt: &HostRuntime,
+    case: &'a Case,
+    program: &'a Program,
+    condition: Option<&'a Condition>,
+) -> io::Result<()> {
     let alloc = rt.alloc();
     let fuel = case.fuel.min(MOST_FUEL);
-    let mut recorder = Recorder::new(alloc, program, case);
+    let mut recorder = Recorder::new(alloc, program, case, condition);
     let ran = run(
         alloc,
         program,
@@ -78,7 +88,29 @@ fn run_case(rt: &HostRuntime, case: &Case, program: &Program) -> io::Result<()> 
         fuel,
         &mut recorder,
     )?;
+    if condition.is_some() {
+        return print!(rt; "{}", recorder.told());
+    }
     print_run(rt, &ran, recorder.told())
+}
+
+/// Prints the condition that a text is, or its refusal.
+fn print_reading(rt: &HostRuntime, reading: &Reading) -> io::Result<()> {
+    let mut text = String::new(rt.alloc());
+    write_reading(&mut text, reading)?;
+    println!(rt; "  {}", text.as_str())
+}
+
+/// Runs the program of a line, with its condition, if it has one.
+fn print_case(rt: &HostRuntime, case: &Case, program: &Program) -> io::Result<()> {
+    let Some(bytes) = &case.condition else {
+        return run_case(rt, case, program, None);
+    };
+    let reading = reading_of(rt.alloc(), bytes.as_slice())?;
+    match &reading {
+        Reading::Condition(condition) => run_case(rt, case, program, Some(condition)),
+        _ => print_reading(rt, &reading),
+    }
 }
 
 fn main(rt: HostRuntime) -> io::Result<()> {
@@ -86,12 +118,17 @@ fn main(rt: HostRuntime) -> io::Result<()> {
     let lines = BufReader::new(alloc, rt.reader())?.lines(alloc);
     for (i, line) in lines.enumerate() {
         println!(rt; "case {i}")?;
-        let Some(case) = case_of(alloc, line?.as_str())? else {
+        let line = line?;
+        if let Some(text) = line.strip_prefix("condition ") {
+            print_reading(&rt, &reading_of(alloc, meant(alloc, text)?.as_slice())?)?;
+            continue;
+        }
+        let Some(case) = case_of(alloc, line.as_str())? else {
             println!(rt; "  no case")?;
             continue;
         };
         match program_of(alloc, &case)? {
-            Some(program) => run_case(&rt, &case, &program)?,
+            Some(program) => print_case(&rt, &case, &program)?,
             None => println!(rt; "  no program")?,
         }
     }

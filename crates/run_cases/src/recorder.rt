@@ -7,8 +7,10 @@ ghost use Rattle.run_cases.specs.Answering as answering;
 ghost use Rattle.run_cases.specs.Answering.{kept_from};
 
 use crate::case::{Answer, Asked, Case};
+use crate::conditions::write_truth;
 use pd_eval::{Heard, Watcher};
 use pd_machine::{Cause, Event, EventKind, Scene, Verdict};
+use pd_plan::Condition;
 use pd_tree::Program;
 use pd_values::{NodeId, Value};
 use std::alloc::{AllocError, Global};
@@ -19,19 +21,26 @@ use std::fmt::Write;
 pub struct Recorder<'a> {
     program: &'a Program,
     case: &'a Case,
+    condition: Option<&'a Condition>,
     text: String,
     heard: Heard,
 }
 
 impl<'a> Recorder<'a> {
     /// No event was told.
-    pub fn new(alloc: Global, program: &'a Program, case: &'a Case) -> Recorder<'a>
+    pub fn new(
+        alloc: Global,
+        program: &'a Program,
+        case: &'a Case,
+        condition: Option<&'a Condition>,
+    ) -> Recorder<'a>
         ensures events { result.heard.events ≡ [] }
         ensures program { result.program.now ≡ program.now }
     {
         Recorder {
             program,
             case,
+            condition,
             text: String::new(alloc),
             heard: Heard::nothing(),
         }
@@ -61,6 +70,9 @@ impl Watcher for Recorder<'_> {
         if !self.case.quiet {
             write_event(&mut self.text, event)?;
             write_frames(&mut self.text, self.program, scene)?;
+        }
+        if let Some(condition) = self.condition {
+            write_truth(&mut self.text, self.program, condition, event, scene)?;
         }
         let verdict = verdict_at(self.case.asked.as_slice(), event.number);
         self.heard = Heard::and(&self.heard, event, scene);
