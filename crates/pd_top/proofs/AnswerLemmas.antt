@@ -13,7 +13,7 @@ use Rattle.pd_top.specs.declared.outcome.Outcome.TheVariants.{Ran, Checked, Usag
 use Rattle.pd_words.specs.Words.{command_of}
 use Rattle.pd_top.specs.Files.{IsContent}
 use Rattle.pd_top.specs.Causes.{Cause, too_long, plan_refused, source_refused, accepted, IsCause}
-use Rattle.pd_top.specs.Answers.{Reading, files_read, Writing, IsTextOf, IsWhole, IsDueTo, IsReason, Tells, IsAnswer, IsDecided, is_ran}
+use Rattle.pd_top.specs.Answers.{Reading, files_read, Writing, IsTextOf, IsReason, Tells, IsAnswer, IsDecided}
 use Rattle.pd_top.specs.Stops.{StopsWords, StopsAccepting}
 use Rattle.pd_top.proofs.GivenLemmas.{cause_within}
 use Rattle.pd_top.proofs.CauseLemmas.{Agrees, one_cause}

@@ -1,5 +1,5 @@
 -- The files of a command have one cause.
-use Rattle.std.proofs.Common.{◌≡◌, ◌<◌, ◌≤◌, ◌+◌, ◌∙◌, ℕ, List, [], ◌∷◌, length, refl, ap, sym, subst, arith, inl, inr, Option, None, Some, Ok, Err, Result}
+use Rattle.std.proofs.Common.{◌≡◌, ◌+◌, ◌∙◌, ℕ, List, [], ◌∷◌, length, refl, ap, sym, subst, arith, inl, inr, Option, Some, Ok, Err}
 use Rattle.std.specs.List.{AllByRecursion}
 use Rattle.std.specs.Str.{IsUtf8, IsValidUpTo}
 use Rattle.std.proofs.lemmas.Str.{utf8_valid_len-IsValidUpTo, utf8_valid_len-IsUtf8}
@@ -13,7 +13,7 @@ use Rattle.pd_tree.specs.Program.{Program}
 use Rattle.pd_load.specs.declared.refusal.LoadRefusal.{LoadRefusal}
 use Rattle.pd_load.specs.declared.refusal.LoadCause.TheVariants.{NotUtf8}
 use Rattle.pd_load.specs.Tables.{IsText}
-use Rattle.pd_load.specs.Loading.{IsLoaded, IsRefused}
+use Rattle.pd_load.specs.Loading.{IsLoaded}
 use Rattle.pd_load.proofs.Exclusive.{loaded_not_refused}
 use Rattle.pd_top.proofs.RefusalLemmas.{one_refusal}
 use Rattle.pd_words.specs.declared.asked.Command.{Command}

@@ -1,14 +1,13 @@
 -- The programs that are loaded have an entry for each context.
-use Rattle.std.proofs.Common.{◌≡◌, ◌<◌, ◌≤◌, ◌+◌, ◌∙◌, ℕ, suc, List, [], ◌∷◌, ◌++◌, length, refl, ap, sym, subst, arith, Option, Result, Ok, Err}
+use Rattle.std.proofs.Common.{◌≡◌, ◌<◌, ◌+◌, ℕ, List, [], ◌∷◌, ◌++◌, length, refl, ap, arith, Result, Ok, Err}
 use Rattle.std.proofs.lemmas.List.{length-append}
 use Rattle.pd_sections.specs.Written.{Written}
 use Rattle.pd_plan.specs.declared.plan.ContextSpec.{ContextSpec}
 use Rattle.pd_plan.specs.declared.plan.Plan.{Plan}
-use Rattle.pd_tree.specs.declared.addition.Addition.{Addition}
 use Rattle.pd_tree.specs.Program.{Program}
 use Rattle.pd_tree.specs.Linked.{program_of}
 use Rattle.pd_load.specs.declared.refusal.LoadRefusal.{LoadRefusal}
-use Rattle.pd_load.specs.Names.{Symbol, Interface}
+use Rattle.pd_load.specs.Names.{Interface}
 use Rattle.pd_load.specs.Linked.{interfaces, all_found, and_then, entry_item, entries_from, exports_from}
 use Rattle.pd_load.specs.Loading.{IsLoaded}
 

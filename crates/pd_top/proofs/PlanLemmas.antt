@@ -1,5 +1,5 @@
 -- The plans that are run: `trace`'s is served, and what is served only observes.
-use Rattle.std.proofs.Common.{◌≡◌, ◌<◌, ◌≤◌, ◌∙◌, ℕ, suc, Option, None, Some, map, List, [], ◌∷◌, length, refl, ap, subst, sym, arith, true, false, Bool}
+use Rattle.std.proofs.Common.{◌≡◌, ◌<◌, ◌≤◌, ◌∙◌, ℕ, suc, Option, None, Some, map, List, [], ◌∷◌, length, refl, ap, subst, sym, arith, true}
 use Rattle.std.specs.Prelude.{IfSome}
 use Rattle.std.specs.List.{AllByRecursion, list_all}
 use Rattle.pd_plan.specs.declared.plan.BindingSpec.{BindingSpec}
@@ -7,7 +7,7 @@ use Rattle.pd_plan.specs.declared.plan.BindingSpec.TheVariants.{Observe, Break, 
 use Rattle.pd_plan.specs.declared.plan.Script.{Script}
 use Rattle.pd_plan.specs.declared.plan.Plan.{Plan}
 use Rattle.pd_plan.specs.declared.plan.ContextSpec.{ContextSpec}
-use Rattle.pd_plan.specs.Sound.{IsFrom, ContextFits, ListFits, IsSound}
+use Rattle.pd_plan.specs.Sound.{IsFrom, ContextFits, ListFits}
 use Rattle.pd_plan_json.specs.Served.{Observes, OnlyAttaches, IsServed}
 use Rattle.pd_words.specs.Words.{IsFuel}
 use Rattle.pd_words.specs.Fuel.{context_with, with_fuel}

@@ -1,5 +1,5 @@
 -- Why a command has no plan and sources, from what stops its steps.
-use Rattle.std.proofs.Common.{◌≡◌, ◌+◌, ◌<◌, ◌≤◌, ◌∙◌, ℕ, List, take, length, get_or, refl, ap, sym, subst, arith, inl, inr, Option, Some, Ok, Err}
+use Rattle.std.proofs.Common.{◌≡◌, ◌+◌, ◌<◌, ◌≤◌, ◌∙◌, ℕ, List, take, length, get_or, ap, sym, subst, arith, inl, inr, Option, Some}
 use Rattle.std.specs.List.{AllByRecursion}
 use Rattle.pd_sections.specs.declared.Stop.{Stop}
 use Rattle.pd_sections.specs.declared.Stop.TheVariants as loading

@@ -99,11 +99,15 @@ pub record IsWrittenInPart (writing : Writing) (bytes : List ℕ) : Type 0 where
 
 -- ---- texts
 
+-- the transcript of a report, as text or as JSON
+abbrev pub transcript : Bool → Plan → Program → Report → List ℕ
+transcript json plan program report = if json then json_of plan program report else text_of plan program report
+
 -- A report of the plan's run, with its transcript as text or as JSON. Its logs stand in the order of events and in that of places alike, so
 -- `merged` asks for the same text.
 abbrev pub IsTranscript : Bool → Plan → Program → Unwritten → List ℕ → Type 0
 IsTranscript json plan program (unwritten.Ran report) text =
-    IsRun plan program report × AreByPlace report × (text ≡ (if json then json_of plan program report else text_of plan program report))
+    IsRun plan program report × AreByPlace report × (text ≡ transcript json plan program report)
 IsTranscript json plan program _ text = ⊥
 
 -- what the command answers for this plan and program, with its whole text: `trace` and `run` a report of the plan's run, `check` the

@@ -1,6 +1,5 @@
--- Definitions, which public contracts cite: Words, Plans, Files, Causes and Answers.
+-- Definitions, which public contracts cite: Plans, Files, Causes and Answers.
 -- For the proofs alone: Stops.
-pub mod Words
 pub mod Plans
 pub mod Files
 pub mod Causes

@@ -1,6 +1,6 @@
 -- For the code's proofs: no public contract needs it.
 -- What stops the steps of a command before it writes. Memory may run out in each: then it stops with `Memory`.
-use Rattle.std.specs.Prelude.{◌≡◌, ℕ, List, Option, Result, Ok, Err}
+use Rattle.std.specs.Prelude.{◌≡◌, ℕ, List, Option, Err}
 use Rattle.pd_sections.specs.declared.Stop.{Stop}
 use Rattle.pd_sections.specs.declared.Stop.TheVariants as loading
 use Rattle.pd_sections.specs.Written.{Written}

@@ -1,17 +1,18 @@
 //! The top call.
 ghost use Rattle.std.specs.Prelude.{◌≡◌, ◌≤◌, ◌<◌, ◌⊎◌, ℕ, true, false, Err, length, Ok, IfOk, IfErr, OnOk, OnErr};
 ghost use Rattle.pd_plan_json.specs.Served.{IsServed};
+ghost use Rattle.pd_report.specs.Run.{IsRun};
 ghost use Rattle.pd_words.specs.declared.asked.WordFault.{WordFault};
 ghost use Rattle.pd_words.specs.Words.{texts, command_of, HasFuelInRange};
 ghost use Rattle.pd_top.specs.Files.{IsGrown};
 ghost use Rattle.pd_top.specs.Stops.{StopsWords};
-ghost use Rattle.pd_top.specs.Answers.{Reading, reading_of, writing_of, IsWritten, IsWrittenInPart, IsTranscript, IsTextOf, IsWhole, IsReason, Tells, IsDecided, is_unwritten};
+ghost use Rattle.pd_top.specs.Answers.{Reading, reading_of, writing_of, IsWritten, IsWrittenInPart, transcript, IsTranscript, IsTextOf, IsWhole, IsReason, Tells, IsDecided, is_unwritten};
 
 use crate::accepting::{Accepted, accept};
 use crate::outcome::{Outcome, Unwritten};
 use pd_host::run_plan;
 use pd_outside::{Failed, Gate, Library, Sink};
-use pd_report::{check_line, json_of, text_of};
+use pd_report::{Report, check_line, json_of, text_of};
 use pd_values::{Stop, Text};
 use pd_words::{Command, WordFault, read_words};
 use std::alloc::{AllocError, Global};
@@ -43,8 +44,26 @@ struct Prepared {
     text: Text,
 }
 
+// The transcript of a report, as text or as JSON.
+fn transcript(
+    alloc: Global,
+    json: bool,
+    report: &Report,
+    accepted: &Accepted,
+) -> Result<Text, AllocError>
+    requires run { IsRun accepted.now.plan accepted.now.program report.now }
+    ensures { IfOk result (λ text. text ≡ transcript json accepted.now.plan accepted.now.program report.now) }
+{
+    let Accepted { plan, program } = accepted;
+    if json {
+        json_of(alloc, report, plan, program)
+    } else {
+        text_of(alloc, report, plan, program)
+    }
+}
+
 // The report of a plan's run, with its transcript as text or as JSON. Nothing is written here.
-fn transcript_of<G: Gate>(
+fn ran<G: Gate>(
     alloc: Global,
     accepted: &Accepted,
     json: bool,
@@ -54,13 +73,8 @@ fn transcript_of<G: Gate>(
     requires entry { 0 < length accepted.now.program.entries }
     ensures { IfOk result (λ p. IsTranscript json accepted.now.plan accepted.now.program p.answer p.text) }
 {
-    let Accepted { plan, program } = accepted;
-    let report = run_plan(alloc, plan, program, gate)?;
-    let text = if json {
-        json_of(alloc, &report, plan, program)?
-    } else {
-        text_of(alloc, &report, plan, program)?
-    };
+    let report = run_plan(alloc, &accepted.plan, &accepted.program, gate)?;
+    let text = transcript(alloc, json, &report, accepted)?;
     Ok(Prepared {
         answer: Unwritten::Ran(report),
         text,
@@ -79,8 +93,8 @@ fn answer_of<G: Gate>(
     ensures { IfOk result (λ p. IsTextOf command.now accepted.now.plan accepted.now.program p.answer p.text) }
 {
     match command {
-        Command::Trace(_) => transcript_of(alloc, accepted, false, gate),
-        Command::Run(words) => transcript_of(alloc, accepted, words.json, gate),
+        Command::Trace(_) => ran(alloc, accepted, false, gate),
+        Command::Run(words) => ran(alloc, accepted, words.json, gate),
         Command::Check(_) => Ok(Prepared {
             answer: Unwritten::Checked,
             text: check_line(alloc, &accepted.plan, &accepted.program)?,

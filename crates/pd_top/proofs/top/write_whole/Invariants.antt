@@ -1,4 +1,4 @@
-use Rattle.std.proofs.Common.{length, ◌-◌, ◌≡◌, ◌≤◌, take}
+use Rattle.std.proofs.Common.{length, ◌-◌, ◌≤◌, take}
 use Rattle.pd_top.specs.Answers.{writing_of, IsWritten}
 use Rattle.pd_top.proofs.top.write_whole.Given as goal
 

@@ -1,0 +1,1 @@
+function main() { println("	é/<&"); return "	é/<&"; }
