@@ -65,14 +65,18 @@ def pointed(name, text, at, why):
     number = bisect.bisect_right(starts, at)
     first = starts[number - 1]
     line = re.split(rb"[\r\n]", text[first:], maxsplit=1)[0]
-    before = line[: at - first].decode(errors="replace")
-    behind = line[at - first :].decode(errors="replace")
-    why = f"{why}: the source ends" if at == len(text) else why
+    before, behind = shown(line[: at - first]), shown(line[at - first :])
+    why = f"{why}; the text ends" if at == len(text) else why
     before = before if len(before) <= AROUND else f"..{before[-AROUND:]}"
     behind = behind if len(behind) <= AROUND else f"{behind[:AROUND]}.."
     label = f"{name}:{number}:{at - first + 1}: "
     blanks = "".join("\t" if it == "\t" else " " * width(it) for it in label + before)
     return f"{label}{before}{behind}\n{blanks}^ {why}"
+
+
+def shown(piece):
+    """Returns the bytes as text in which nothing but tabs moves a terminal."""
+    return "".join(it if it.isprintable() or it == "\t" else "\ufffd" for it in piece.decode(errors="replace"))
 
 
 def width(character):
@@ -237,12 +241,12 @@ def explained(message, words):
 
 def main(said, *words):
     try:
-        shown = explained(os.fsdecode(read(said)), words)
+        lines = explained(os.fsdecode(read(said)), words)
     except (OSError, ValueError, IndexError, KeyError, TypeError, NotJson, RecursionError):
         # A file may have changed since it was refused.
-        shown = ""
-    if shown:
-        sys.stdout.buffer.write(f"{shown}\n".encode(errors="surrogateescape"))
+        lines = ""
+    if lines:
+        sys.stdout.buffer.write(f"{lines}\n".encode(errors="surrogateescape"))
 
 
 if __name__ == "__main__":

@@ -8,8 +8,10 @@
 
 crates.txt has the crates in groups and layers, lowest first, and each dependency is named in the crate's code, definitions or proofs.
 docs/ARCHITECTURE.md has one row for each crate, in the heading of its group and with its layer; docs/PROOFS.md has one row for each.
-A row whose crate isn't in crates.txt has `not yet` as its layer, and none in docs/PROOFS.md. The picture and the reading list are as these tools make them.
+A row whose crate isn't in crates.txt has `not yet` as its layer, and none in docs/PROOFS.md. The picture and the reading list are as these
+tools make them. Crates and their files that README.md and docs/ name are there.
 """
+import os
 import re
 import sys
 
@@ -65,6 +67,19 @@ def faults_of_rows(path, crates, has_layers):
     return faults
 
 
+def faults_of_names(crates):
+    """Returns the crates and files of crates that a document names and that aren't there."""
+    known = {it.name for it in crates} | {name for _, _, name, _ in rows_of("docs/ARCHITECTURE.md")}
+    faults = []
+    for path in ["README.md", *(f"docs/{it}" for it in sorted(os.listdir(f"{listed.HOME}/docs")) if it.endswith(".md"))]:
+        text = listed.read_text(path)
+        names = sorted(set(re.findall(r"\bpd_\w+\b", text)) - known)
+        files = sorted(set(re.findall(r"\b(?:crates/)?([a-z]\w*/(?:specs|src|proofs|must-fail)/[\w/]+\.\w+)", text)))
+        faults += [f"{path} names {it}, which is no crate" for it in names]
+        faults += [f"{path} names {it}, which isn't there" for it in files if not os.path.isfile(f"{listed.HOME}/crates/{it}")]
+    return faults
+
+
 def in_order(text, crates, has_layers):
     """Returns the page with its groups and rows in the order of crates.txt, and with the layer of each crate in its row."""
     place = {it.name: number for number, it in enumerate(crates)}
@@ -113,6 +128,7 @@ def faults_of(crates):
     faults = [f"crates.txt: {it.name} never names {dep}" for it in crates for dep in unused(it)]
     faults += faults_of_rows("docs/ARCHITECTURE.md", crates, has_layers=True)
     faults += faults_of_rows("docs/PROOFS.md", crates, has_layers=False)
+    faults += faults_of_names(crates)
     for path, text in written(crates).items():
         if listed.read_text(path) != text:
             faults.append(f"{path} isn't what tools/maps.py --write makes of it")
