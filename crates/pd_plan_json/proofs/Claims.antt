@@ -1,16 +1,20 @@
--- What the tables say of values that no plan reaches yet, as worked cases.
+-- What the tables say of values that no plan that is served has, as worked cases.
 use Rattle.std.proofs.Common.{◌≡◌, ℕ, pos, negsuc, List, [], ◌∷◌, ◌++◌, Ok, Err, None, true, false, Float, codes, refl}
 use Rattle.serde_json.specs.Data.{unsigned, negative, float, Data, null, boolean, number, string, array, object, no_items, item, no_members, member}
 use Rattle.pd_values.specs.declared.value.Value.TheVariants as values
 use Rattle.pd_plan.specs.declared.refusal.PlanRule.{PlanRule}
-use Rattle.pd_plan.specs.declared.refusal.PlanRule.TheVariants.{Missing, WrongShape, OutOfRange, UnknownWord, UnknownMember, NoSuch, NotAnObserver, NotBuilt}
+use Rattle.pd_plan.specs.declared.refusal.PlanRule.TheVariants.{Missing, WrongShape, OutOfRange, UnknownWord, UnknownMember, NoSuch, NotAnObserver, BadCondition, NotBuilt}
 use Rattle.pd_plan.specs.declared.plan.BindingSpec.TheVariants as bindings
 use Rattle.pd_plan.specs.declared.plan.Act.TheVariants.{Attach, Dispose, Enable}
 use Rattle.pd_plan.specs.declared.plan.Action.TheVariants as actions
-use Rattle.pd_plan.specs.declared.plan.Resume.TheVariants.{Continue, Into, Return}
+use Rattle.pd_plan.specs.declared.plan.Resume.TheVariants.{Continue, Into, Reenter, Return, Kill}
+use Rattle.pd_plan.specs.declared.condition.Op.TheVariants.{Less}
+use Rattle.pd_plan.specs.declared.condition.Condition.TheVariants.{Name, Number}
+use Rattle.pd_condition.specs.Grammar.{between}
 use Rattle.pd_plan.specs.declared.plan.Plan.{Plan}
 use Rattle.pd_plan_json.specs.Reading.{Read, entry_step}
 use Rattle.pd_plan_json.specs.Shapes.{number_in, reference, text_in, list_in, required, optional, with_default, no_other, table_of, one_of}
+use Rattle.pd_plan_json.specs.Served.{session_served, served}
 use Rattle.pd_plan_json.specs.Tables.{export, export_members, breakpoint, breakpoint_members, pause, pause_members, condition, first_act, act, wait_members, first_action, action, given, returning, first_step, stepping, resume, answer, answer_members}
 use Rattle.pd_plan_json.specs.References.{each, act_refers, observed, action_refers, session_refers, refers, binding_refers}
 
@@ -110,19 +114,23 @@ step_and_more : stepping 1 (with_2 (codes "into") (whole 1) (codes "x") null) �
 unfolding stepping first_step one_of optional no_other number_in
 step_and_more = refl
 
-reenters : stepping 1 (with_1 (codes "reenter") (whole 9999)) ≡ refused NotBuilt []
-unfolding stepping one_of
+reenters : stepping 1 (with_1 (codes "reenter") (whole 2000)) ≡ Ok (Reenter 2000)
+unfolding stepping first_step one_of optional no_other number_in
 reenters = refl
+
+reenters_too_far : stepping 1 (with_1 (codes "reenter") (whole 2001)) ≡ refused OutOfRange (codes "/reenter")
+unfolding stepping first_step one_of optional no_other number_in
+reenters_too_far = refl
 
 no_return_in_1 : stepping 1 (with_1 (codes "return") null) ≡ refused WrongShape []
 unfolding stepping one_of
 no_return_in_1 = refl
 
-return_in_2 : stepping 2 (with_1 (codes "return") null) ≡ refused NotBuilt []
-unfolding stepping one_of
+return_in_2 : stepping 2 (with_1 (codes "return") null) ≡ refused WrongShape (codes "/return")
+unfolding stepping first_step one_of optional returning
 return_in_2 = refl
 
-words : (resume 1 (text (codes "continue")) ≡ Ok Continue) × (resume 2 (text (codes "kill")) ≡ refused NotBuilt []) × (resume 1 (text (codes "go")) ≡ refused UnknownWord [])
+words : (resume 1 (text (codes "continue")) ≡ Ok Continue) × (resume 2 (text (codes "kill")) ≡ Ok Kill) × (resume 1 (text (codes "go")) ≡ refused UnknownWord [])
 unfolding resume
 words = (refl, refl, refl)
 
@@ -144,8 +152,8 @@ more_in_1 : act 1 (with_2 (codes "attach") (whole 0) (codes "enable") (whole 0))
 unfolding act first_act one_of optional no_other reference
 more_in_1 = refl
 
-enable_in_2 : act 2 (with_1 (codes "enable") (whole 0)) ≡ refused NotBuilt []
-unfolding act one_of
+enable_in_2 : act 2 (with_1 (codes "enable") (whole 0)) ≡ Ok (Enable 0)
+unfolding act first_act one_of optional no_other reference
 enable_in_2 = refl
 
 two_in_2 : act 2 (with_2 (codes "attach") (whole 0) (codes "enable") (whole 0)) ≡ refused WrongShape []
@@ -178,9 +186,13 @@ no_condition : condition (text []) ≡ refused OutOfRange []
 unfolding condition
 no_condition = refl
 
-a_condition : condition (text (codes "a < 1")) ≡ refused NotBuilt []
+a_condition : condition (text (codes "a < 1")) ≡ Ok (between Less (Name (codes "a")) (Number (pos 1)))
 unfolding condition
 a_condition = refl
+
+no_right_side : condition (text (codes "a <")) ≡ refused BadCondition []
+unfolding condition
+no_right_side = refl
 
 a_pause : pause (with_1 (codes "session") (whole 2)) ≡ Ok (bindings.Pause 2)
 unfolding pause_members table_of required no_other reference
@@ -198,6 +210,15 @@ a_plan = record { sources = []; exports = []; contexts = []; bindings = bindings
 no_observer : refers a_plan ≡ refused NotAnObserver (codes "/sessions" ++ (entry_step 0 ++ (codes "/actions" ++ (entry_step 0 ++ codes "/enable"))))
 unfolding refers each binding_refers session_refers action_refers act_refers observed
 no_observer = refl
+
+-- what isn't served is told at the place of the first
+no_pause : served a_plan ≡ refused NotBuilt (codes "/bindings" ++ (entry_step 0 ++ codes "/kind"))
+unfolding served each
+no_pause = refl
+
+no_actions : served (record a_plan { bindings = [] }) ≡ refused NotBuilt (codes "/sessions" ++ (entry_step 0 ++ codes "/actions"))
+unfolding served each session_served
+no_actions = refl
 
 no_binding : act_refers a_plan (Enable 1) ≡ refused NoSuch (codes "/enable")
 unfolding act_refers observed

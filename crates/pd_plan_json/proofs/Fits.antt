@@ -6,20 +6,19 @@ use Rattle.std.proofs.lemmas.Bool.Decides.{nat_tests}
 use Rattle.serde_json.specs.Data.{unsigned, negative, float, Data, null, boolean, number, string, array, object, Items, no_items, item}
 use Rattle.serde_json.specs.Find.{get}
 use Rattle.pd_plan.specs.declared.refusal.PlanRule.{PlanRule}
-use Rattle.pd_plan.specs.declared.refusal.PlanRule.TheVariants.{WrongShape, OutOfRange, NotBuilt}
+use Rattle.pd_plan.specs.declared.refusal.PlanRule.TheVariants.{WrongShape, OutOfRange}
 use Rattle.pd_values.specs.declared.value.Value.TheVariants as values
 use Rattle.pd_plan.specs.declared.plan.BindingSpec.TheVariants as bindings
 use Rattle.pd_plan.specs.declared.plan.Action.{Action}
 use Rattle.pd_plan.specs.declared.plan.Action.TheVariants as actions
 use Rattle.pd_plan.specs.declared.plan.Resume.{Resume}
-use Rattle.pd_plan.specs.declared.plan.Resume.TheVariants.{Continue, Into, Over, Out, Reenter, Return}
+use Rattle.pd_plan.specs.declared.plan.Resume.TheVariants.{Continue, Into, Over, Out, Reenter, Return, Kill}
 use Rattle.pd_plan.specs.Sound.{IsFrom, ListFits, Any, ContextFits, LinesFit, FilterFits, BindingFits, ActionFits, IsSigned64, ValueFits, ResumeFits, AnswerFits, SessionFits, PlanFits}
 use Rattle.pd_plan_json.specs.declared.bindings.Kind.{Kind}
 use Rattle.pd_plan_json.specs.declared.bindings.Kind.TheVariants as kinds
-use Rattle.pd_plan_json.specs.Served.{Observes, OnlyAttaches}
 use Rattle.pd_plan_json.specs.Reading.{Read, ◌>>=◌, ◌>>◌, refuse, refuse_if, under, member_step, entry_step}
-use Rattle.pd_plan_json.specs.Shapes.{present, chars, an_object, no_other, table_of, one_of, or_else, optional_as, outside, signed, signed_in, truth, items, whole, or_missing, if_there, number_in, reference, required, optional, with_default, list_in, entries, count, meaning}
-use Rattle.pd_plan_json.specs.Tables.{name, tag, pair, condition, kind, kind_of, context, context_members, lines, filter, filter_members, observer, observer_members, breakpoint, breakpoint_members, pause, pause_members, binding, binding_of, first_act, act, wait, wait_members, first_action, action, given, frame_and_value, returning, steps, first_step, stepping, resume, answer, answer_members, session, session_members, source, export, plan, plan_members}
+use Rattle.pd_plan_json.specs.Shapes.{present,  an_object, no_other, table_of, one_of, or_else, optional_as, outside, signed, signed_in, truth, items, whole, or_missing, if_there, number_in, reference, required, optional, with_default, list_in, entries, count, meaning}
+use Rattle.pd_plan_json.specs.Tables.{name, tag, pair, condition, kind, context, context_members, lines, filter, filter_members, observer, observer_members, breakpoint, breakpoint_members, pause, pause_members, binding, binding_of, first_act, act, wait, wait_members, first_action, action, given, frame_and_value, returning, steps, first_step, stepping, resume, answer, answer_members, session, session_members, source, export, plan, plan_members}
 
 -- ---- what an answered chain has answered
 
@@ -98,13 +97,12 @@ entries_fit reader P k i (item d ds) xs e =
     let first = k d a.0 (under_ok (entry_step i) (reader d) a.0 a.1) in
     ok_is (λ ys. (length ys ≡ count (item d ds)) × AllByRecursion P ys) (a.0 ∷ b.0) xs _ refl b.2 (ap suc rest.0, (first, rest.1))
 
-list_fits : {A : Type 0} (low high built : ℕ) (reader : Data → Read A) (P : A → Type 0) → Keeps reader P → Keeps (list_in low high built reader) (ListFits low high P)
+list_fits : {A : Type 0} (low high : ℕ) (reader : Data → Read A) (P : A → Type 0) → Keeps reader P → Keeps (list_in low high reader) (ListFits low high P)
 unfolding list_in
-list_fits low high built reader P k d x e =
+list_fits low high reader P k d x e =
     let a = bind_ok (items d) _ x e in
     let b = tested_ok (outside low high (count a.0)) OutOfRange _ x a.2 in
-    let c = tested_ok (nat_lt built (count a.0)) NotBuilt _ x b.1 in
-    let g = entries_fit reader P k 0 a.0 x c.1 in
+    let g = entries_fit reader P k 0 a.0 x b.1 in
     record { len = subst (IsFrom low high) (sym g.0) (in_range low high (count a.0) b.0); all = g.1 }
 
 -- an empty list is in range from 0, and a list from low is one from 0
@@ -115,8 +113,8 @@ or_none : {A : Type 0} (low high : ℕ) (P : A → Type 0) (xs : List A) → Lis
 or_none low high P xs h = record { len = (omega arith, h.len.1); all = h.all }
 
 -- a list member with the default of no entries
-listed : {A : Type 0} (name : List ℕ) (low high built : ℕ) (reader : Data → Read A) (P : A → Type 0) → Keeps reader P → Keeps (with_default name [] (list_in low high built reader)) (ListFits 0 high P)
-listed name low high built reader P k = default_keeps name [] (list_in low high built reader) (ListFits 0 high P) (none_fit high P) (λ d x e. or_none low high P x (list_fits low high built reader P k d x e))
+listed : {A : Type 0} (name : List ℕ) (low high : ℕ) (reader : Data → Read A) (P : A → Type 0) → Keeps reader P → Keeps (with_default name [] (list_in low high reader)) (ListFits 0 high P)
+listed name low high reader P k = default_keeps name [] (list_in low high reader) (ListFits 0 high P) (none_fit high P) (λ d x e. or_none low high P x (list_fits low high reader P k d x e))
 
 chosen : {A : Type 0} (P : A → Type 0) (b : Bool) (r rest : Read A) (x : A) → cond b r rest ≡ Ok x → (r ≡ Ok x → P x) → (rest ≡ Ok x → P x) → P x
 chosen P true r rest x e h k = h e
@@ -126,10 +124,10 @@ means : {A : Type 0} (P : A → Type 0) (ws : List (List ℕ × Read A)) → All
 means P [] all s x e = absurd cc
 means P (w ∷ ws) all s x e = chosen P (bytes_eq s w.0) w.1 (meaning ws s) x e (all.0 x) (means P ws all.1 s x)
 
-one_fits : {A : Type 0} (names unserved : List (List ℕ)) (reader : Data → Read A) (P : A → Type 0) → Keeps reader P → Keeps (one_of names unserved reader) P
+one_fits : {A : Type 0} (names : List (List ℕ)) (reader : Data → Read A) (P : A → Type 0) → Keeps reader P → Keeps (one_of names reader) P
 unfolding one_of
-one_fits names unserved reader P k d x e =
-    let a = bind_ok (reader d) _ x (then_ok (refuse_if (nat_lt 0 (present unserved d)) NotBuilt) _ x (then_ok (refuse_if (not (present names d == 1)) WrongShape) _ x (then_ok (an_object d) _ x e))) in
+one_fits names reader P k d x e =
+    let a = bind_ok (reader d) _ x (then_ok (refuse_if (not (present names d == 1)) WrongShape) _ x (then_ok (an_object d) _ x e)) in
     ok_is P a.0 x (Ok a.0) refl (then_ok (no_other names d) _ x a.2) (k d a.0 a.1)
 
 table_keeps : {A : Type 0} (names : List (List ℕ)) (inner : Data → Read A) (P : A → Type 0) → Keeps inner P → Keeps (table_of names inner) P
@@ -198,17 +196,17 @@ lines_fit d x e =
 filter_members_fits : Keeps filter_members FilterFits
 unfolding filter_members
 filter_members_fits d x e =
-    let a = bind_ok (with_default (codes "tags") [] (list_in 1 64 64 tag) d) _ x e in
-    let b = bind_ok (with_default (codes "not_tags") [] (list_in 1 64 64 tag) d) _ x a.2 in
-    let c = bind_ok (with_default (codes "sources") [] (list_in 1 64 64 reference) d) _ x b.2 in
-    let l = bind_ok (with_default (codes "lines") [] (list_in 1 64 64 lines) d) _ x c.2 in
-    let r = bind_ok (with_default (codes "roots") [] (list_in 1 64 64 name) d) _ x l.2 in
+    let a = bind_ok (with_default (codes "tags") [] (list_in 1 64 tag) d) _ x e in
+    let b = bind_ok (with_default (codes "not_tags") [] (list_in 1 64 tag) d) _ x a.2 in
+    let c = bind_ok (with_default (codes "sources") [] (list_in 1 64 reference) d) _ x b.2 in
+    let l = bind_ok (with_default (codes "lines") [] (list_in 1 64 lines) d) _ x c.2 in
+    let r = bind_ok (with_default (codes "roots") [] (list_in 1 64 name) d) _ x l.2 in
     ok_is FilterFits (record { tags = a.0; not_tags = b.0; sources = c.0; lines = l.0; roots = r.0 }) x _ refl r.2 (record {
-      tags = listed (codes "tags") 1 64 64 tag Any (anything tag) d a.0 a.1;
-      not_tags = listed (codes "not_tags") 1 64 64 tag Any (anything tag) d b.0 b.1;
-      sources = listed (codes "sources") 1 64 64 reference Any (anything reference) d c.0 c.1;
-      lines = listed (codes "lines") 1 64 64 lines LinesFit lines_fit d l.0 l.1;
-      roots = listed (codes "roots") 1 64 64 name Any (anything name) d r.0 r.1;
+      tags = listed (codes "tags") 1 64 tag Any (anything tag) d a.0 a.1;
+      not_tags = listed (codes "not_tags") 1 64 tag Any (anything tag) d b.0 b.1;
+      sources = listed (codes "sources") 1 64 reference Any (anything reference) d c.0 c.1;
+      lines = listed (codes "lines") 1 64 lines LinesFit lines_fit d l.0 l.1;
+      roots = listed (codes "roots") 1 64 name Any (anything name) d r.0 r.1;
     })
 
 filter_fits : Keeps filter FilterFits
@@ -282,7 +280,7 @@ either false r s P k l = l
 
 action_fits : (version : ℕ) → Keeps (action version) ActionFits
 unfolding action
-action_fits version = either (version == 1) _ _ ActionFits (one_fits _ _ first_action ActionFits first_action_fits) (one_fits _ _ first_action ActionFits first_action_fits)
+action_fits version = either (version == 1) _ _ ActionFits (one_fits _ first_action ActionFits first_action_fits) (one_fits _ first_action ActionFits first_action_fits)
 
 signed_in_fits : (z y : ℤ) → signed_in z ≡ Ok y → IsSigned64 y
 signed_in_fits (pos n) y e = from_test (nat_lt n (2 ^ 63)) refl e
@@ -346,17 +344,17 @@ first_step_fits d =
 
 stepping_fits : (version : ℕ) → Keeps (stepping version) ResumeFits
 unfolding stepping
-stepping_fits version = either (version == 1) _ _ ResumeFits (one_fits _ _ first_step ResumeFits first_step_fits) (one_fits _ _ first_step ResumeFits first_step_fits)
+stepping_fits version = either (version == 1) _ _ ResumeFits (one_fits _ first_step ResumeFits first_step_fits) (one_fits _ first_step ResumeFits first_step_fits)
 
 continues : (x : Resume) → ◌≡◌ {A = Read Resume} (Ok Continue) (Ok x) → ResumeFits x
 continues x e = ok_is ResumeFits Continue x (Ok Continue) refl e tt
 
-kills : (x : Resume) → ◌≡◌ {A = Read Resume} (refuse NotBuilt) (Ok x) → ResumeFits x
-kills x e = absurd cc
+kills : (x : Resume) → ◌≡◌ {A = Read Resume} (Ok Kill) (Ok x) → ResumeFits x
+kills x e = ok_is ResumeFits Kill x (Ok Kill) refl e tt
 
 resume_fits : (version : ℕ) → Keeps (resume version) ResumeFits
 unfolding resume
-resume_fits version (string s) x e = means ResumeFits ((codes "continue", Ok Continue) ∷ (codes "kill", refuse NotBuilt) ∷ []) (continues, (kills, tt)) s x e
+resume_fits version (string s) x e = means ResumeFits ((codes "continue", Ok Continue) ∷ (codes "kill", Ok Kill) ∷ []) (continues, (kills, tt)) s x e
 resume_fits version null x e = stepping_fits version null x e
 resume_fits version (boolean b) x e = stepping_fits version (boolean b) x e
 resume_fits version (number n) x e = stepping_fits version (number n) x e
@@ -366,118 +364,48 @@ resume_fits version (object ms) x e = stepping_fits version (object ms) x e
 answer_members_fits : (version : ℕ) → Keeps (answer_members version) AnswerFits
 unfolding answer_members
 answer_members_fits version d x e =
-    let f = bind_ok (with_default (codes "first") [] (list_in 0 64 64 (act version)) d) _ x e in
+    let f = bind_ok (with_default (codes "first") [] (list_in 0 64 (act version)) d) _ x e in
     let n = bind_ok (required (codes "then") (resume version) d) _ x f.2 in
     ok_is AnswerFits (record { first = f.0; resume = n.0 }) x _ refl n.2 (record {
-      first = listed (codes "first") 0 64 64 (act version) Any (anything (act version)) d f.0 f.1;
+      first = listed (codes "first") 0 64 (act version) Any (anything (act version)) d f.0 f.1;
       resume = required_keeps (codes "then") (resume version) ResumeFits (resume_fits version) d n.0 n.1;
     })
 
 answer_fits : (version : ℕ) → Keeps (answer version) AnswerFits
 answer_fits version = table_keeps _ (answer_members version) AnswerFits (answer_members_fits version)
 
--- a list with no more entries than are served
-list_served : {A : Type 0} (low high built : ℕ) (reader : Data → Read A) → Keeps (list_in low high built reader) (λ xs. length xs ≤ built)
-unfolding list_in
-list_served low high built reader d x e =
-    let a = bind_ok (items d) _ x e in
-    let b = tested_ok (outside low high (count a.0)) OutOfRange _ x a.2 in
-    let c = tested_ok (nat_lt built (count a.0)) NotBuilt _ x b.1 in
-    let g = entries_fit reader Any (anything reader) 0 a.0 x c.1 in
-    let most : count a.0 ≤ built = not_below built (count a.0) c.0 in
-    subst (λ n. n ≤ built) (sym g.0) most
-
-none_of : {A : Type 0} (xs : List A) → length xs ≤ 0 → xs ≡ []
-none_of [] h = refl
-none_of (x ∷ xs) h = absurd (omega arith)
-
--- a list member of which no entry is served
-unserved : {A : Type 0} (name : List ℕ) (high : ℕ) (reader : Data → Read A) → Keeps (with_default name [] (list_in 0 high 0 reader)) (λ xs. xs ≡ [])
-unserved name high reader = default_keeps name [] (list_in 0 high 0 reader) (λ xs. xs ≡ []) refl (λ d x e. none_of x (list_served 0 high 0 reader d x e))
-
-session_members_keeps : (version : ℕ) → Keeps (session_members version) (λ s. SessionFits s × OnlyAttaches s)
+session_members_fits : (version : ℕ) → Keeps (session_members version) SessionFits
 unfolding session_members
-session_members_keeps version d x e =
-    let b = bind_ok (with_default (codes "before") [] (list_in 0 4096 4096 reference) d) _ x e in
-    let a = bind_ok (with_default (codes "actions") [] (list_in 0 1000 0 (action version)) d) _ x b.2 in
-    let w = bind_ok (with_default (codes "answers") [] (list_in 0 10000 0 (answer version)) d) _ x a.2 in
-    ok_is (λ s. SessionFits s × OnlyAttaches s) (record { before = b.0; actions = a.0; answers = w.0 }) x _ refl w.2 (
-      record {
-        before = listed (codes "before") 0 4096 4096 reference Any (anything reference) d b.0 b.1;
-        actions = listed (codes "actions") 0 1000 0 (action version) ActionFits (action_fits version) d a.0 a.1;
-        answers = listed (codes "answers") 0 10000 0 (answer version) AnswerFits (answer_fits version) d w.0 w.1;
-      },
-      record {
-        actions = unserved (codes "actions") 1000 (action version) d a.0 a.1;
-        answers = unserved (codes "answers") 10000 (answer version) d w.0 w.1;
-      },
-    )
-
-session_keeps : (version : ℕ) → Keeps (session version) (λ s. SessionFits s × OnlyAttaches s)
-session_keeps version = table_keeps _ (session_members version) (λ s. SessionFits s × OnlyAttaches s) (session_members_keeps version)
+session_members_fits version d x e =
+    let b = bind_ok (with_default (codes "before") [] (list_in 0 4096 reference) d) _ x e in
+    let a = bind_ok (with_default (codes "actions") [] (list_in 0 1000 (action version)) d) _ x b.2 in
+    let w = bind_ok (with_default (codes "answers") [] (list_in 0 10000 (answer version)) d) _ x a.2 in
+    ok_is SessionFits (record { before = b.0; actions = a.0; answers = w.0 }) x _ refl w.2 (record {
+      before = listed (codes "before") 0 4096 reference Any (anything reference) d b.0 b.1;
+      actions = listed (codes "actions") 0 1000 (action version) ActionFits (action_fits version) d a.0 a.1;
+      answers = listed (codes "answers") 0 10000 (answer version) AnswerFits (answer_fits version) d w.0 w.1;
+    })
 
 session_fits : (version : ℕ) → Keeps (session version) SessionFits
-session_fits version d x e = (session_keeps version d x e).0
+session_fits version = table_keeps _ (session_members version) SessionFits (session_members_fits version)
 
-session_attaches : (version : ℕ) → Keeps (session version) OnlyAttaches
-session_attaches version d x e = (session_keeps version d x e).1
-
--- the bindings that are served
-observes : (x : Kind) → ◌≡◌ {A = Read Kind} (Ok kinds.Observe) (Ok x) → x ≡ kinds.Observe
-observes x e = cc
-
-no_kind : (x : Kind) → ◌≡◌ {A = Read Kind} (refuse NotBuilt) (Ok x) → x ≡ kinds.Observe
-no_kind x e = absurd cc
-
-kind_observes : Keeps kind (λ k. k ≡ kinds.Observe)
-unfolding kind
-kind_observes d x e =
-    let s = bind_ok (chars d) kind_of x e in
-    means (λ k. k ≡ kinds.Observe) ((codes "observe", Ok kinds.Observe) ∷ (codes "break", refuse NotBuilt) ∷ (codes "pause", refuse NotBuilt) ∷ []) (observes, (no_kind, (no_kind, tt))) s.0 x s.2
-
-observer_members_observes : Keeps observer_members Observes
-unfolding observer_members
-observer_members_observes d x e =
-    let f = bind_ok (required (codes "filter") filter d) _ x e in
-    ok_is Observes (bindings.Observe f.0) x _ refl f.2 tt
-
-observer_observes : Keeps observer Observes
-observer_observes = table_keeps _ observer_members Observes observer_members_observes
-
-binding_observes : Keeps binding Observes
-unfolding binding
-binding_observes d x e =
-    let k = bind_ok (required (codes "kind") kind d) _ x (then_ok _ _ x e) in
-    let is : k.0 ≡ kinds.Observe = required_keeps (codes "kind") kind (λ k. k ≡ kinds.Observe) kind_observes d k.0 k.1 in
-    observer_observes d x (subst (λ k. binding_of k d ≡ Ok x) is k.2)
-
-one_context : {A : Type 0} (P : A → Type 0) (xs : List A) → ListFits 1 16 P xs → length xs ≤ 1 → length xs ≡ 1
-one_context P xs fits most = let least : 1 ≤ length xs = fits.len.0 in omega arith
-
-plan_members_keeps : Keeps plan_members (λ p. PlanFits p × (length p.contexts ≡ 1) × AllByRecursion Observes p.bindings × AllByRecursion OnlyAttaches p.sessions)
+plan_members_fits : Keeps plan_members PlanFits
 unfolding plan_members
-plan_members_keeps d x e =
+plan_members_fits d x e =
     let v = bind_ok (required (codes "version") (number_in 1 2) d) _ x e in
-    let s = bind_ok (required (codes "sources") (list_in 1 16 16 source) d) _ x v.2 in
-    let m = bind_ok (with_default (codes "exports") [] (list_in 0 256 256 export) d) _ x s.2 in
-    let c = bind_ok (required (codes "contexts") (list_in 1 16 1 context) d) _ x m.2 in
-    let b = bind_ok (with_default (codes "bindings") [] (list_in 0 4096 4096 binding) d) _ x c.2 in
-    let t = bind_ok (with_default (codes "sessions") [] (list_in 0 16 16 (session v.0)) d) _ x b.2 in
-    let contexts = required_keeps (codes "contexts") (list_in 1 16 1 context) (ListFits 1 16 ContextFits) (list_fits 1 16 1 context ContextFits context_fits) d c.0 c.1 in
-    let most = required_keeps (codes "contexts") (list_in 1 16 1 context) (λ xs. length xs ≤ 1) (list_served 1 16 1 context) d c.0 c.1 in
-    ok_is (λ p. PlanFits p × (length p.contexts ≡ 1) × AllByRecursion Observes p.bindings × AllByRecursion OnlyAttaches p.sessions) (record { sources = s.0; exports = m.0; contexts = c.0; bindings = b.0; sessions = t.0 }) x _ refl t.2 (
-      record {
-        sources = required_keeps (codes "sources") (list_in 1 16 16 source) (ListFits 1 16 Any) (list_fits 1 16 16 source Any (anything source)) d s.0 s.1;
-        exports = listed (codes "exports") 0 256 256 export Any (anything export) d m.0 m.1;
-        contexts = contexts;
-        bindings = listed (codes "bindings") 0 4096 4096 binding BindingFits binding_fits d b.0 b.1;
-        sessions = listed (codes "sessions") 0 16 16 (session v.0) SessionFits (session_fits v.0) d t.0 t.1;
-      },
-      one_context ContextFits c.0 contexts most,
-      (listed (codes "bindings") 0 4096 4096 binding Observes binding_observes d b.0 b.1).all,
-      (listed (codes "sessions") 0 16 16 (session v.0) OnlyAttaches (session_attaches v.0) d t.0 t.1).all,
-    )
+    let s = bind_ok (required (codes "sources") (list_in 1 16 source) d) _ x v.2 in
+    let m = bind_ok (with_default (codes "exports") [] (list_in 0 256 export) d) _ x s.2 in
+    let c = bind_ok (required (codes "contexts") (list_in 1 16 context) d) _ x m.2 in
+    let b = bind_ok (with_default (codes "bindings") [] (list_in 0 4096 binding) d) _ x c.2 in
+    let t = bind_ok (with_default (codes "sessions") [] (list_in 0 16 (session v.0)) d) _ x b.2 in
+    ok_is PlanFits (record { sources = s.0; exports = m.0; contexts = c.0; bindings = b.0; sessions = t.0 }) x _ refl t.2 (record {
+      sources = required_keeps (codes "sources") (list_in 1 16 source) (ListFits 1 16 Any) (list_fits 1 16 source Any (anything source)) d s.0 s.1;
+      exports = listed (codes "exports") 0 256 export Any (anything export) d m.0 m.1;
+      contexts = required_keeps (codes "contexts") (list_in 1 16 context) (ListFits 1 16 ContextFits) (list_fits 1 16 context ContextFits context_fits) d c.0 c.1;
+      bindings = listed (codes "bindings") 0 4096 binding BindingFits binding_fits d b.0 b.1;
+      sessions = listed (codes "sessions") 0 16 (session v.0) SessionFits (session_fits v.0) d t.0 t.1;
+    })
 
-pub plan_keeps : Keeps plan (λ p. PlanFits p × (length p.contexts ≡ 1) × AllByRecursion Observes p.bindings × AllByRecursion OnlyAttaches p.sessions)
+pub plan_fits : Keeps plan PlanFits
 unfolding plan
-plan_keeps = table_keeps _ plan_members (λ p. PlanFits p × (length p.contexts ≡ 1) × AllByRecursion Observes p.bindings × AllByRecursion OnlyAttaches p.sessions) plan_members_keeps
+plan_fits = table_keeps _ plan_members PlanFits plan_members_fits

@@ -14,13 +14,14 @@ use Rattle.pd_plan.specs.Sound.{AllBelow, IsObserver, BreakRefers, BindingRefers
 use Rattle.pd_plan_json.specs.Reading.{Read, ◌>>◌, refuse_if, under, member_step, entry_step}
 use Rattle.pd_plan_json.specs.References.{had, within, each, each_from, export_refers, context_refers, filter_refers, break_refers, binding_refers, act_refers, action_refers, answer_refers, session_refers, is_observer, observed, refers}
 use Rattle.pd_plan_json.specs.Tables.{plan}
+use Rattle.pd_plan_json.specs.Served.{served}
 use Rattle.pd_plan_json.specs.Whole.{plan_of, plan_at, data_of}
 use Rattle.pd_plan_json.proofs.Fits.{bind_ok, under_ok}
 
-abbrev Shows : {A : Type 0} → (A → Read ⊤) → (A → Type 0) → Type 0
+abbrev pub Shows : {A : Type 0} → (A → Read ⊤) → (A → Type 0) → Type 0
 Shows {A} rule P = (x : A) → rule x ≡ Ok tt → P x
 
-first_ok : (r s : Read ⊤) → (r >> s) ≡ Ok tt → (r ≡ Ok tt) × (s ≡ Ok tt)
+pub first_ok : (r s : Read ⊤) → (r >> s) ≡ Ok tt → (r ≡ Ok tt) × (s ≡ Ok tt)
 first_ok (Ok x) s e = (refl, e)
 first_ok (Err r) s e = absurd cc
 
@@ -45,7 +46,7 @@ unfolding each
 each_shows rule P k xs e = each_from_shows rule P k 0 xs e
 
 -- each entry of a list that is a member
-listed_shows : {A : Type 0} (name : List ℕ) (rule : A → Read ⊤) (P : A → Type 0) → Shows rule P → Shows (within name (each rule)) (AllByRecursion P)
+pub listed_shows : {A : Type 0} (name : List ℕ) (rule : A → Read ⊤) (P : A → Type 0) → Shows rule P → Shows (within name (each rule)) (AllByRecursion P)
 listed_shows name rule P k = within_shows name (each rule) (AllByRecursion P) (each_shows rule P k)
 
 export_shows : (c : Plan) → Shows (export_refers c) (λ e. e.source < (length c.sources))
@@ -125,15 +126,17 @@ plan_shows c e =
       sessions = listed_shows (codes "sessions") (session_refers c) (SessionRefers c.bindings) (session_shows c) c.sessions d.1;
     }
 
-referred_ok : (r : Read ⊤) (p x : Plan) → (r >> Ok p) ≡ Ok x → (r ≡ Ok tt) × (p ≡ x)
-referred_ok (Ok tt) p x e = (refl, cc)
-referred_ok (Err r) p x e = absurd cc
+referred_ok : (r s : Read ⊤) (p x : Plan) → (r >> (s >> Ok p)) ≡ Ok x → (r ≡ Ok tt) × (s ≡ Ok tt) × (p ≡ x)
+referred_ok (Ok u) (Ok v) p x e = (refl, refl, cc)
+referred_ok (Ok u) (Err r) p x e = absurd cc
+referred_ok (Err r) (Ok u) p x e = absurd cc
+referred_ok (Err r) (Err s) p x e = absurd cc
 
--- what is read refers to what it has, and is what the walk of the value gave
-pub plan_refers : (bytes : List ℕ) (p : Plan) → plan_at bytes ≡ Ok p → (d : Data) × (plan d ≡ Ok p) × PlanRefers p
+-- what is read refers to what it has and is served, and is what the walk of the value gave
+pub plan_refers : (bytes : List ℕ) (p : Plan) → plan_at bytes ≡ Ok p → (d : Data) × (plan d ≡ Ok p) × PlanRefers p × (served p ≡ Ok tt)
 unfolding plan_at plan_of
 plan_refers bytes p e =
     let d = bind_ok (data_of bytes) plan_of p e in
     let q = bind_ok (plan d.0) _ p d.2 in
-    let r = referred_ok (refers q.0) q.0 p q.2 in
-    subst (λ p. (d : Data) × (plan d ≡ Ok p) × PlanRefers p) r.1 (d.0, q.1, plan_shows q.0 r.0)
+    let r = referred_ok (refers q.0) (served q.0) q.0 p q.2 in
+    subst (λ p. (d : Data) × (plan d ≡ Ok p) × PlanRefers p × (served p ≡ Ok tt)) r.2 (d.0, q.1, plan_shows q.0 r.0, r.1)

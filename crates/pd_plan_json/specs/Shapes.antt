@@ -3,7 +3,7 @@ use Rattle.std.specs.Prelude.{ℕ, suc, ℤ, pos, negsuc, ◌^◌, List, [], ◌
 use Rattle.std.specs.List.{list_any}
 use Rattle.serde_json.specs.Data.{unsigned, negative, Data, boolean, number, string, array, object, Items, no_items, item, Members, no_members, member}
 use Rattle.serde_json.specs.Find.{get}
-use Rattle.pd_plan.specs.declared.refusal.PlanRule.TheVariants.{Missing, WrongShape, OutOfRange, UnknownWord, UnknownMember, NotBuilt}
+use Rattle.pd_plan.specs.declared.refusal.PlanRule.TheVariants.{Missing, WrongShape, OutOfRange, UnknownWord, UnknownMember}
 use Rattle.pd_plan_json.specs.Reading.{Read, ◌>>=◌, ◌>>◌, refuse, refuse_if, under, member_step, entry_step}
 
 -- n is not from low to high
@@ -90,12 +90,11 @@ abbrev pub count : Items → ℕ
 count no_items = 0
 count (item d ds) = suc (count ds)
 
--- a list of low to high entries, of which this version serves at most `built`
-unfoldable pub list_in : {A : Type 0} → ℕ → ℕ → ℕ → (Data → Read A) → Data → Read (List A)
-list_in low high built reader d = do
+-- a list of low to high entries
+unfoldable pub list_in : {A : Type 0} → ℕ → ℕ → (Data → Read A) → Data → Read (List A)
+list_in low high reader d = do
   ds ← items d
   refuse_if (outside low high (count ds)) OutOfRange
-  refuse_if (nat_lt built (count ds)) NotBuilt
   entries reader 0 ds
 
 -- a member that has to be there
@@ -141,12 +140,11 @@ table_of names inner d = do
 abbrev pub present : List (List ℕ) → Data → ℕ
 present names d = count_by (λ name. is_some (get name d)) names
 
--- an object with just one of these members, and none of those that this version doesn't serve
-unfoldable pub one_of : {A : Type 0} → List (List ℕ) → List (List ℕ) → (Data → Read A) → Data → Read A
-one_of names unserved reader d = do
+-- an object with just one of these members
+unfoldable pub one_of : {A : Type 0} → List (List ℕ) → (Data → Read A) → Data → Read A
+one_of names reader d = do
   an_object d
   refuse_if (not (present names d == 1)) WrongShape
-  refuse_if (nat_lt 0 (present unserved d)) NotBuilt
   x ← reader d
   no_other names d
   Ok x

@@ -1,11 +1,10 @@
 -- Definition: the tables of a plan: the members of each object, in order, and the names that the object may have. A
--- list has at least the first and at most the second number of entries, of which this version serves at most the third.
--- What it doesn't serve is `NotBuilt` at its value, after the value's other rules and before the next value.
-use Rattle.std.specs.Prelude.{ℕ, ◌==◌, if◌then◌else◌, List, [], ◌∷◌, length, Ok, codes, nat_lt, false}
+-- list has at least the first and at most the second number of entries.
+use Rattle.std.specs.Prelude.{ℕ, ◌==◌, if◌then◌else◌, List, [], ◌∷◌, length, Option, None, Some, Ok, codes, nat_lt, false}
 use Rattle.serde_json.specs.Data.{Data, null, boolean, number, string, array, object, Items, no_items, item}
 use Rattle.pd_values.specs.declared.value.Value.{Value}
 use Rattle.pd_values.specs.declared.value.Value.TheVariants as values
-use Rattle.pd_plan.specs.declared.refusal.PlanRule.TheVariants.{WrongShape, OutOfRange, NotBuilt}
+use Rattle.pd_plan.specs.declared.refusal.PlanRule.TheVariants.{WrongShape, OutOfRange, BadCondition}
 use Rattle.pd_plan.specs.declared.condition.Condition.{Condition}
 use Rattle.pd_plan.specs.declared.plan.Language.{Language}
 use Rattle.pd_plan.specs.declared.plan.Language.TheVariants.{Sl, Pl0}
@@ -23,10 +22,11 @@ use Rattle.pd_plan.specs.declared.plan.Act.TheVariants.{Attach, Dispose, Enable,
 use Rattle.pd_plan.specs.declared.plan.Action.{Action}
 use Rattle.pd_plan.specs.declared.plan.Action.TheVariants as actions
 use Rattle.pd_plan.specs.declared.plan.Resume.{Resume}
-use Rattle.pd_plan.specs.declared.plan.Resume.TheVariants.{Continue, Into, Over, Out, Reenter, Return}
+use Rattle.pd_plan.specs.declared.plan.Resume.TheVariants.{Continue, Into, Over, Out, Reenter, Return, Kill}
 use Rattle.pd_plan.specs.declared.plan.Answer.{Answer}
 use Rattle.pd_plan.specs.declared.plan.Script.{Script}
 use Rattle.pd_plan.specs.declared.plan.Plan.{Plan}
+use Rattle.pd_condition.specs.Found.{condition_in}
 use Rattle.pd_plan_json.specs.declared.bindings.Kind.{Kind}
 use Rattle.pd_plan_json.specs.declared.bindings.Kind.TheVariants as kinds
 use Rattle.pd_plan_json.specs.Reading.{Read, ◌>>=◌, ◌>>◌, refuse, refuse_if, under, entry_step}
@@ -108,23 +108,28 @@ lines d = do
 -- the members of a filter
 unfoldable pub filter_members : Data → Read Filter
 filter_members d = do
-  tags ← with_default (codes "tags") [] (list_in 1 64 64 tag) d
-  not_tags ← with_default (codes "not_tags") [] (list_in 1 64 64 tag) d
-  sources ← with_default (codes "sources") [] (list_in 1 64 64 reference) d
-  ranges ← with_default (codes "lines") [] (list_in 1 64 64 lines) d
-  roots ← with_default (codes "roots") [] (list_in 1 64 64 name) d
+  tags ← with_default (codes "tags") [] (list_in 1 64 tag) d
+  not_tags ← with_default (codes "not_tags") [] (list_in 1 64 tag) d
+  sources ← with_default (codes "sources") [] (list_in 1 64 reference) d
+  ranges ← with_default (codes "lines") [] (list_in 1 64 lines) d
+  roots ← with_default (codes "roots") [] (list_in 1 64 name) d
   Ok (record { tags = tags; not_tags = not_tags; sources = sources; lines = ranges; roots = roots })
 
 -- a filter
 abbrev pub filter : Data → Read Filter
 filter = table_of (codes "tags" ∷ codes "not_tags" ∷ codes "sources" ∷ codes "lines" ∷ codes "roots" ∷ []) filter_members
 
--- the condition of a breakpoint, of 1 to 1000 bytes
+-- the condition, if the text is one
+abbrev pub or_bad : Option Condition → Read Condition
+or_bad None = refuse BadCondition
+or_bad (Some c) = Ok c
+
+-- the condition of a breakpoint: a text of 1 to 1000 bytes that is one
 unfoldable pub condition : Data → Read Condition
 condition d = do
   s ← chars d
   refuse_if (outside 1 1000 (length s)) OutOfRange
-  refuse NotBuilt
+  or_bad (condition_in s)
 
 -- the members of an observer
 unfoldable pub observer_members : Data → Read BindingSpec
@@ -161,9 +166,9 @@ pause_members d = do
 abbrev pub pause : Data → Read BindingSpec
 pause = table_of (codes "kind" ∷ codes "session" ∷ []) pause_members
 
--- the kind of a word; this version serves observers alone
+-- the kind of a word
 abbrev pub kind_of : List ℕ → Read Kind
-kind_of = meaning ((codes "observe", Ok kinds.Observe) ∷ (codes "break", refuse NotBuilt) ∷ (codes "pause", refuse NotBuilt) ∷ [])
+kind_of = meaning ((codes "observe", Ok kinds.Observe) ∷ (codes "break", Ok kinds.Break) ∷ (codes "pause", Ok kinds.Pause) ∷ [])
 
 -- the kind of a binding
 unfoldable pub kind : Data → Read Kind
@@ -193,7 +198,7 @@ first_act d =
 
 -- an act of a plan of the version
 unfoldable pub act : ℕ → Data → Read Act
-act version = if version == 1 then one_of (codes "attach" ∷ codes "dispose" ∷ []) [] first_act else one_of (codes "attach" ∷ codes "dispose" ∷ codes "enable" ∷ codes "disable" ∷ []) (codes "enable" ∷ codes "disable" ∷ []) first_act
+act version = if version == 1 then one_of (codes "attach" ∷ codes "dispose" ∷ []) first_act else one_of (codes "attach" ∷ codes "dispose" ∷ codes "enable" ∷ codes "disable" ∷ []) first_act
 
 -- the members of a wait for answers
 unfoldable pub wait_members : Data → Read Action
@@ -212,11 +217,11 @@ first_action d = or_else (optional (codes "await") wait d) (first_act d >>= λ a
 
 -- an action of a plan of the version
 unfoldable pub action : ℕ → Data → Read Action
-action version = if version == 1 then one_of (codes "attach" ∷ codes "dispose" ∷ codes "await" ∷ []) [] first_action else one_of (codes "attach" ∷ codes "dispose" ∷ codes "await" ∷ codes "enable" ∷ codes "disable" ∷ []) (codes "enable" ∷ codes "disable" ∷ []) first_action
+action version = if version == 1 then one_of (codes "attach" ∷ codes "dispose" ∷ codes "await" ∷ []) first_action else one_of (codes "attach" ∷ codes "dispose" ∷ codes "await" ∷ codes "enable" ∷ codes "disable" ∷ []) first_action
 
 -- the way to go on that is a word
 abbrev pub resume_of : List ℕ → Read Resume
-resume_of = meaning ((codes "continue", Ok Continue) ∷ (codes "kill", refuse NotBuilt) ∷ [])
+resume_of = meaning ((codes "continue", Ok Continue) ∷ (codes "kill", Ok Kill) ∷ [])
 
 -- the value that a call is told to give
 unfoldable pub given : Data → Read Value
@@ -261,7 +266,7 @@ first_step d =
 
 -- how a context goes on, as an object of a plan of the version
 unfoldable pub stepping : ℕ → Data → Read Resume
-stepping version = if version == 1 then one_of (codes "into" ∷ codes "over" ∷ codes "out" ∷ codes "reenter" ∷ []) (codes "reenter" ∷ []) first_step else one_of (codes "into" ∷ codes "over" ∷ codes "out" ∷ codes "reenter" ∷ codes "return" ∷ []) (codes "reenter" ∷ codes "return" ∷ []) first_step
+stepping version = if version == 1 then one_of (codes "into" ∷ codes "over" ∷ codes "out" ∷ codes "reenter" ∷ []) first_step else one_of (codes "into" ∷ codes "over" ∷ codes "out" ∷ codes "reenter" ∷ codes "return" ∷ []) first_step
 
 -- a way to go on: a word, or an object of a plan of this version
 unfoldable pub resume : ℕ → Data → Read Resume
@@ -271,7 +276,7 @@ resume version d = stepping version d
 -- the members of an answer
 unfoldable pub answer_members : ℕ → Data → Read Answer
 answer_members version d = do
-  first ← with_default (codes "first") [] (list_in 0 64 64 (act version)) d
+  first ← with_default (codes "first") [] (list_in 0 64 (act version)) d
   next ← required (codes "then") (resume version) d
   Ok (record { first = first; resume = next })
 
@@ -279,27 +284,27 @@ answer_members version d = do
 abbrev pub answer : ℕ → Data → Read Answer
 answer version = table_of (codes "first" ∷ codes "then" ∷ []) (answer_members version)
 
--- the members of a session; this version serves no actions and no answers
+-- the members of a session
 unfoldable pub session_members : ℕ → Data → Read Script
 session_members version d = do
-  before ← with_default (codes "before") [] (list_in 0 4096 4096 reference) d
-  acts ← with_default (codes "actions") [] (list_in 0 1000 0 (action version)) d
-  answers ← with_default (codes "answers") [] (list_in 0 10000 0 (answer version)) d
+  before ← with_default (codes "before") [] (list_in 0 4096 reference) d
+  acts ← with_default (codes "actions") [] (list_in 0 1000 (action version)) d
+  answers ← with_default (codes "answers") [] (list_in 0 10000 (answer version)) d
   Ok (record { before = before; actions = acts; answers = answers })
 
 -- a session
 abbrev pub session : ℕ → Data → Read Script
 session version = table_of (codes "before" ∷ codes "actions" ∷ codes "answers" ∷ []) (session_members version)
 
--- the members of a plan; this version serves one context
+-- the members of a plan
 unfoldable pub plan_members : Data → Read Plan
 plan_members d = do
   version ← required (codes "version") (number_in 1 2) d
-  sources ← required (codes "sources") (list_in 1 16 16 source) d
-  exports ← with_default (codes "exports") [] (list_in 0 256 256 export) d
-  contexts ← required (codes "contexts") (list_in 1 16 1 context) d
-  observed ← with_default (codes "bindings") [] (list_in 0 4096 4096 binding) d
-  sessions ← with_default (codes "sessions") [] (list_in 0 16 16 (session version)) d
+  sources ← required (codes "sources") (list_in 1 16 source) d
+  exports ← with_default (codes "exports") [] (list_in 0 256 export) d
+  contexts ← required (codes "contexts") (list_in 1 16 context) d
+  observed ← with_default (codes "bindings") [] (list_in 0 4096 binding) d
+  sessions ← with_default (codes "sessions") [] (list_in 0 16 (session version)) d
   Ok (record { sources = sources; exports = exports; contexts = contexts; bindings = observed; sessions = sessions })
 
 -- a plan

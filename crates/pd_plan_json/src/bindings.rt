@@ -1,7 +1,8 @@
 //! The tables of bindings.
-ghost use Rattle.std.specs.Prelude.{◌≡◌, IfOk};
+ghost use Rattle.std.specs.Prelude.{◌≡◌, ◌≤◌, length, IfOk};
 ghost use Rattle.serde_json.specs.View.{view, items_view};
 ghost use Rattle.pd_plan.specs.declared.refusal.PlanRule.TheVariants.{OutOfRange};
+ghost use Rattle.pd_condition.specs.Found.{condition_in};
 ghost use Rattle.pd_plan_json.specs.Reading.{Gives, GivesBy, refuse_if, under, entry_step};
 ghost use Rattle.pd_plan_json.specs.Shapes.{outside};
 ghost use Rattle.pd_plan_json.specs.Tables as table;
@@ -11,7 +12,7 @@ use crate::program::NAME;
 use crate::reader::{Reader, in_entry, refusal};
 use crate::shapes::{ListIn, NumberIn, Reference, TextIn, Truth, chars_of, items_of, whole_of};
 use pd_plan::{BindingSpec, BreakSpec, Condition, Filter, LineRange, PlanRefusal, PlanRule};
-use pd_values::{Stop, Tag};
+use pd_values::{Stop, Tag, Text};
 use serde_json::Value;
 use std::alloc::Global;
 
@@ -44,28 +45,24 @@ impl Reader for TagWord {
 const TAGS: ListIn<TagWord> = ListIn {
     low: 1,
     high: 64,
-    built: 64,
     entry: TagWord,
 };
 
 const NUMBERS: ListIn<Reference> = ListIn {
     low: 1,
     high: 64,
-    built: 64,
     entry: Reference,
 };
 
 const RANGES: ListIn<LinesTable> = ListIn {
     low: 1,
     high: 64,
-    built: 64,
     entry: LinesTable,
 };
 
 const ROOTS: ListIn<TextIn> = ListIn {
     low: 1,
     high: 64,
-    built: 64,
     entry: NAME,
 };
 
@@ -154,7 +151,20 @@ const FILTER: Table<FilterMembers> = Table {
     members: FilterMembers,
 };
 
-/// Reads a condition, a text of 1 to 1000 bytes. This version serves none: each is refused as `NotBuilt`.
+/// The condition that a text is.
+fn condition_of(alloc: Global, text: &str) -> Result<Condition, Stop<PlanRefusal>>
+    requires { length text.now ≤ 1000 }
+    ensures { Gives result (table.or_bad (condition_in text.now)) }
+{
+    let text = Text::of(String::from_str(alloc, text)?);
+    match pd_condition::read(alloc, &text) {
+        Ok(condition) => Ok(condition),
+        Err(pd_sections::Stop::Memory) => Err(Stop::Memory),
+        Err(pd_sections::Stop::Refused(_)) => Err(refusal(alloc, PlanRule::BadCondition)),
+    }
+}
+
+/// Reads a condition, a text of 1 to 1000 bytes.
 #[derive(Drop)]
 struct ConditionText;
 
@@ -169,7 +179,7 @@ impl Reader for ConditionText {
         if text.is_empty() || text.len() > 1000 {
             return Err(refusal(alloc, PlanRule::OutOfRange));
         }
-        Err(refusal(alloc, PlanRule::NotBuilt))
+        condition_of(alloc, text)
     }
 }
 
@@ -181,7 +191,7 @@ enum Kind {
     Pause,
 }
 
-/// Reads the kind of a binding. This version serves `observe` alone.
+/// Reads the kind of a binding.
 #[derive(Drop)]
 struct KindWord;
 
@@ -194,8 +204,8 @@ impl Reader for KindWord {
     fn read(&self, alloc: Global, value: &Value) -> Result<Kind, Stop<PlanRefusal>> {
         match chars_of(alloc, value)? {
             "observe" => Ok(Kind::Observe),
-            "break" => Err(refusal(alloc, PlanRule::NotBuilt)),
-            "pause" => Err(refusal(alloc, PlanRule::NotBuilt)),
+            "break" => Ok(Kind::Break),
+            "pause" => Ok(Kind::Pause),
             _ => Err(refusal(alloc, PlanRule::UnknownWord)),
         }
     }

@@ -107,24 +107,19 @@ fn present_in(value: &Value, names: &[&str]) -> usize
     names.iter().filter(|n| value.get(**n).is_some()).count()
 }
 
-/// What an object is that has just one of these members; it is refused as `NotBuilt` where it has one of `unserved`,
-/// which this version doesn't serve.
+/// What an object is that has just one of these members.
 #[tactic(auto, unfolding(crate::specs::Shapes::one_of))]
 pub(crate) fn choice_of<R: Reader>(
     alloc: Global,
     value: &Value,
     names: &[&str],
-    unserved: &[&str],
     reader: &R,
 ) -> Result<R::Output, Stop<PlanRefusal>>
-    ensures { Gives result (one_of (map (λ n. n.now) names.now) (map (λ n. n.now) unserved.now)
-        (R.reads reader.now) (view value.now)) }
+    ensures { Gives result (one_of (map (λ n. n.now) names.now) (R.reads reader.now)
+        (view value.now)) }
 {
     if !value.is_object() || present_in(value, names) != 1 {
         return Err(refusal(alloc, PlanRule::WrongShape));
-    }
-    if present_in(value, unserved) > 0 {
-        return Err(refusal(alloc, PlanRule::NotBuilt));
     }
     let chosen = reader.read(alloc, value)?;
     no_other_than(alloc, value, names)?;
@@ -165,7 +160,7 @@ pub(crate) fn list_of<R: Reader>(
     list: &ListIn<R>,
 ) -> Result<Items<R::Output>, Stop<PlanRefusal>>
     ensures { Gives result (with_default name.now []
-        (list_in list.now.low list.now.high list.now.built (R.reads list.now.entry))
+        (list_in list.now.low list.now.high (R.reads list.now.entry))
         (view value.now)) }
 {
     let empty = Items::of(Vec::new(alloc));

@@ -11,8 +11,8 @@ use pd_plan::{
 use pd_values::{Items, Stop};
 use std::alloc::Global;
 
-/// A rule on the numbers that a value of one kind has.
-trait Rule {
+/// A rule on a value of one kind.
+pub(crate) trait Rule {
     type Of: Drop;
 
     ghost holds: { Self → Self.Of → Read ⊤ };
@@ -21,7 +21,8 @@ trait Rule {
         ensures { Gives result (holds self.now x.now) };
 }
 
-fn check_within<R: Rule>(
+/// The rule on a member.
+pub(crate) fn check_within<R: Rule>(
     alloc: Global,
     name: &str,
     x: &R::Of,
@@ -48,8 +49,8 @@ fn check_each<R: Rule>(alloc: Global, xs: &[R::Of], rule: &R) -> Result<(), Stop
 
 /// The rule on each entry of a list.
 #[derive(Drop)]
-struct Each<R> {
-    entry: R,
+pub(crate) struct Each<R> {
+    pub(crate) entry: R,
 }
 
 impl<R: Rule> Rule for Each<R> {

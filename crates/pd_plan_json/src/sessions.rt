@@ -26,7 +26,6 @@ const FRAMES: NumberIn = NumberIn { low: 0, high: 2000 };
 const BEFORE: ListIn<Reference> = ListIn {
     low: 0,
     high: 4096,
-    built: 4096,
     entry: Reference,
 };
 
@@ -71,10 +70,10 @@ impl Reader for ActTable {
     #[tactic(auto, unfolding(crate::specs::Tables::act))]
     fn read(&self, alloc: Global, value: &Value) -> Result<Act, Stop<PlanRefusal>> {
         if self.version == 1 {
-            return choice_of(alloc, value, &["attach", "dispose"], &[], &FirstAct);
+            return choice_of(alloc, value, &["attach", "dispose"], &FirstAct);
         }
         let names = &["attach", "dispose", "enable", "disable"];
-        choice_of(alloc, value, names, &["enable", "disable"], &FirstAct)
+        choice_of(alloc, value, names, &FirstAct)
     }
 }
 
@@ -133,10 +132,10 @@ impl Reader for ActionTable {
     fn read(&self, alloc: Global, value: &Value) -> Result<Action, Stop<PlanRefusal>> {
         if self.version == 1 {
             let names = &["attach", "dispose", "await"];
-            return choice_of(alloc, value, names, &[], &FirstAction);
+            return choice_of(alloc, value, names, &FirstAction);
         }
         let names = &["attach", "dispose", "await", "enable", "disable"];
-        choice_of(alloc, value, names, &["enable", "disable"], &FirstAction)
+        choice_of(alloc, value, names, &FirstAction)
     }
 }
 
@@ -237,10 +236,10 @@ impl Reader for SteppingTable {
     fn read(&self, alloc: Global, value: &Value) -> Result<Resume, Stop<PlanRefusal>> {
         if self.version == 1 {
             let names = &["into", "over", "out", "reenter"];
-            return choice_of(alloc, value, names, &["reenter"], &FirstStep);
+            return choice_of(alloc, value, names, &FirstStep);
         }
         let names = &["into", "over", "out", "reenter", "return"];
-        choice_of(alloc, value, names, &["reenter", "return"], &FirstStep)
+        choice_of(alloc, value, names, &FirstStep)
     }
 }
 
@@ -259,7 +258,7 @@ impl Reader for ResumeTable {
     fn read(&self, alloc: Global, value: &Value) -> Result<Resume, Stop<PlanRefusal>> {
         match value.as_str() {
             Some("continue") => Ok(Resume::Continue),
-            Some("kill") => Err(refusal(alloc, PlanRule::NotBuilt)),
+            Some("kill") => Ok(Resume::Kill),
             Some(_) => Err(refusal(alloc, PlanRule::UnknownWord)),
             None => SteppingTable {
                 version: self.version,
@@ -288,7 +287,6 @@ impl Reader for AnswerMembers {
         let acts = ListIn {
             low: 0,
             high: 64,
-            built: 64,
             entry: ActTable { version },
         };
         let first = list_of(alloc, value, "first", &acts)?;
@@ -316,14 +314,12 @@ impl Reader for SessionMembers {
         let actions = ListIn {
             low: 0,
             high: 1000,
-            built: 0,
             entry: ActionTable { version },
         };
         let actions = list_of(alloc, value, "actions", &actions)?;
         let answers = ListIn {
             low: 0,
             high: 10_000,
-            built: 0,
             entry: Table {
                 names: ANSWER,
                 members: AnswerMembers { version },

@@ -176,29 +176,24 @@ fn entries_of<R: Reader>(
     Ok(found)
 }
 
-/// Reads a list of `low` to `high` entries. This version serves at most `built` of them; more are refused as
-/// `NotBuilt`.
+/// Reads a list of `low` to `high` entries.
 #[derive(Drop)]
 pub(crate) struct ListIn<R> {
     pub(crate) low: usize,
     pub(crate) high: usize,
-    pub(crate) built: usize,
     pub(crate) entry: R,
 }
 
 impl<R: Reader> Reader for ListIn<R> {
     type Output = Items<R::Output>;
 
-    ghost reads = { λ r. list_in r.low r.high r.built (R.reads r.entry) };
+    ghost reads = { λ r. list_in r.low r.high (R.reads r.entry) };
 
     #[tactic(auto, unfolding(crate::specs::Shapes::list_in), using(crate::proofs::Lists::count_of_items))]
     fn read(&self, alloc: Global, value: &Value) -> Result<Items<R::Output>, Stop<PlanRefusal>> {
         let values = items_of(alloc, value)?;
         if values.len() < self.low || values.len() > self.high {
             return Err(refusal(alloc, PlanRule::OutOfRange));
-        }
-        if values.len() > self.built {
-            return Err(refusal(alloc, PlanRule::NotBuilt));
         }
         let found = entries_of(alloc, values, &self.entry)?;
         Ok(Items::of(found))

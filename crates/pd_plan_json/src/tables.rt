@@ -20,29 +20,24 @@ const VERSIONS: NumberIn = NumberIn { low: 1, high: 2 };
 const SOURCES: ListIn<Table<SourceMembers>> = ListIn {
     low: 1,
     high: 16,
-    built: 16,
     entry: SOURCE,
 };
 
 const EXPORTS: ListIn<Table<ExportMembers>> = ListIn {
     low: 0,
     high: 256,
-    built: 256,
     entry: EXPORT,
 };
 
-// A plan may have 16 contexts; this version serves one.
 const CONTEXTS: ListIn<Table<ContextMembers>> = ListIn {
     low: 1,
     high: 16,
-    built: 1,
     entry: CONTEXT,
 };
 
 const BINDINGS: ListIn<BindingTable> = ListIn {
     low: 0,
     high: 4096,
-    built: 4096,
     entry: BindingTable,
 };
 
@@ -67,7 +62,6 @@ impl Reader for PlanMembers {
         let sessions = ListIn {
             low: 0,
             high: 16,
-            built: 16,
             entry: Table {
                 names: SESSION,
                 members: SessionMembers { version },

@@ -8,6 +8,7 @@ ghost use Rattle.pd_plan_json.specs.Served.{IsServed};
 
 use crate::reader::refusal;
 use crate::references::check_references;
+use crate::serving::check_served;
 use crate::tables::plan_in;
 use pd_plan::{Plan, PlanRefusal, PlanRule};
 use pd_values::Stop;
@@ -39,6 +40,7 @@ fn plan_from(alloc: Global, bytes: &[u8]) -> Result<Plan, Stop<PlanRefusal>>
     let value = value_of(alloc, bytes)?;
     let plan = plan_in(alloc, &value)?;
     check_references(alloc, &plan)?;
+    check_served(alloc, &plan)?;
     Ok(plan)
 }
 
