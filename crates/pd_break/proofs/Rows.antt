@@ -34,7 +34,7 @@ passing_more-yes test n passes = passing_more test n ∙ ap (λ b. filter test (
 pub passing_more-no : (test : ℕ → Bool) (n : ℕ) → test n ≡ false → filter test (range_with_len 0 (n + 1)) ≡ filter test (range_with_len 0 n)
 passing_more-no test n fails = passing_more test n ∙ ap (λ b. filter test (range_with_len 0 n) ++ cond b (n ∷ []) []) fails ∙ append-nil (filter test (range_with_len 0 n))
 
-lesser-swap : (a b : ℕ) (least : Resolved) → lesser a (lesser b least) ≡ lesser b (lesser a least)
+pub lesser-swap : (a b : ℕ) (least : Resolved) → lesser a (lesser b least) ≡ lesser b (lesser a least)
 lesser-swap a b Unresolved = ap (λ m. Line m) (omega arith)
 lesser-swap a b (Line c) = ap (λ m. Line m) (omega arith)
 

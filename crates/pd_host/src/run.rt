@@ -8,7 +8,7 @@ ghost use Rattle.pd_report.specs.Run.{IsObserving, IsRun};
 
 use crate::attaching::attach_all;
 use pd_board::PlainBoard;
-use pd_filter::matches;
+use pd_index::matches;
 use pd_observing::run_context;
 use pd_outside::Gate;
 use pd_plan::Plan;
