@@ -24,7 +24,7 @@ abbrev holder : TableId → View → Holder
 holder id v = record { id = id; view = v }
 
 pub told : (k : Kind) (p q : Layout) (word n : ℕ) (was now : TableId) (before next : Me ℕ View) (h : Holder)
-    → (now ≡ was) × Told p k word (operand (change_of k)) before n next → word ≡ word_of q k → holder was before.0 ≡ h → p ≡ q → holder now next.0 ≡ record h { view = after q k n h.view }
+    → (now ≡ was) × Told p k word (operand (change_of k)) 0 before n next → word ≡ word_of q k → holder was before.0 ≡ h → p ≡ q → holder now next.0 ≡ record h { view = after q k n h.view }
 told k p q word n was now before next h e there is same =
     let ids : now ≡ h.id = e.0 ∙ ap (λ (x : Holder). x.id) is in
     let old : before.0 ≡ h.view = ap (λ (x : Holder). x.view) is in

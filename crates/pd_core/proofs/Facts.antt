@@ -1,19 +1,18 @@
 -- What the rule and the calls' clauses give to the layer above: what is known after each kind of step, and what a word that was found says.
-use Rattle.std.proofs.Common.{◌≡◌, ◌≢◌, ◌⊎◌, ℕ, zero, suc, ◌+◌, ◌/◌, ◌<◌, ◌≤◌, ◌^◌, ◌++◌, ◌∷◌, List, [], length, eqb, map, Bool, true, false, not, ◌==◌, sym, refl, ap, ◌∙◌, subst, ⊎_elim, inl, inr, arith, eq-eqb, ne_eqb, append-nil}
-use Rattle.std.specs.Prelude.{slice_index}
+use Rattle.std.proofs.Common.{◌≡◌, ◌≢◌, ◌⊎◌, ℕ, zero, suc, ◌+◌, ◌<◌, ◌≤◌, ◌^◌, ◌++◌, List, map, Bool, true, false, not, sym, refl, ap, ◌∙◌, subst, ⊎_elim, inl, inr, arith, eq-eqb, ne_eqb, append-nil}
 use lib.ListN.{get_elem?}
 use mathlib.Core.Option.{some}
 use Rattle.pd_core.specs.declared.view.View.{View}
 use Rattle.pd_core.specs.declared.view.Talk.{Talk}
-use Rattle.pd_core.specs.Layout.{Layout, bindings, width, session_word, end_word, binding_word}
-use Rattle.pd_core.specs.Words.{attached, disposed, sum_in, live, summary, bit_of}
-use Rattle.pd_core.specs.Counts.{total, times, once_below, only_if}
-use Rattle.pd_core.specs.Talks.{spent, readings, end_readings, ends_of}
-use Rattle.pd_core.specs.Views.{Known, fresh, found_attached, found_disposed, known, of_all, misses, toggles_upto, talk_of}
+use Rattle.pd_core.specs.Layout.{Layout, bindings, width, session_word, end_word}
+use Rattle.pd_core.specs.Words.{disposed, live, summary, bit_of}
+use Rattle.pd_core.specs.Counts.{total, times, only_if}
+use Rattle.pd_core.specs.Talks.{spent, readings, end_readings}
+use Rattle.pd_core.specs.Views.{found_attached, found_disposed, known, of_all, misses, toggles_upto, talk_of}
 use Rattle.pd_core.specs.Good.{Good}
-use Rattle.pd_core.specs.Kinds.{Found, after, load_node, load_binding, draw, set_attached, set_disposed, count_answer, load_answers, load_ends, set_off, clear_off}
-use Rattle.pd_core.proofs.Sums.{times_here, times_grows, times-append, times-none}
-use Rattle.pd_core.proofs.Waves.{known_fresh, known_disposed, is_disposed, is_attached, same_known}
+use Rattle.pd_core.specs.Kinds.{Found, after, load_node, draw, set_attached, set_disposed, count_answer, load_answers, load_ends, set_off, clear_off}
+use Rattle.pd_core.proofs.Sums.{times_here}
+use Rattle.pd_core.proofs.Waves.{is_disposed, is_attached, same_known}
 use Rattle.pd_core.proofs.Draws.{zero_or_one}
 use Rattle.pd_core.proofs.Answers.{total_under}
 use Rattle.pd_core.proofs.Replies.{missed_once}

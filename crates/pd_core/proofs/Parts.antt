@@ -156,17 +156,38 @@ missed_number b x n s e h = (λ i. same_here b s.binding e i * at_number x (h i)
 
 -- the order of own steps, later and with one more
 pub ordered_later : (d : Deeds) (m n : ℕ) → m ≤ n → Ordered d m → Ordered d n
-ordered_later d m n le f = record { order = f.order; toggled = λ i t e. let h = f.toggled i t e in omega arith; seen = λ j s e. let h = f.seen j s e in omega arith }
+ordered_later d m n le f = record { order = f.order; toggled = λ i t e. let h = f.toggled i t e in omega arith; seen = λ j s e. let h = f.seen j s e in omega arith; toggles_rise = f.toggles_rise; sights_rise = f.sights_rise }
 
 pub ordered_none : (m : ℕ) → Ordered no_deeds m
-ordered_none m = record { order = λ i j t s n e _ _ _ _. absurd (some-ne-none t (sym e)); toggled = λ i t e. absurd (some-ne-none t (sym e)); seen = λ j s e. absurd (some-ne-none s (sym e)) }
+ordered_none m = record { order = λ i j t s n e _ _ _ _. absurd (some-ne-none t (sym e)); toggled = λ i t e. absurd (some-ne-none t (sym e)); seen = λ j s e. absurd (some-ne-none s (sym e)); toggles_rise = λ i j s t lt e _. absurd (some-ne-none s (sym e)); sights_rise = λ i j s t lt e _. absurd (some-ne-none s (sym e)) }
 
 pub ordered_same : (d e : Deeds) (m : ℕ) → e.sights ≡ d.sights → e.toggles ≡ d.toggles → Ordered d m → Ordered e m
 ordered_same d e m h k f = record {
   order = λ i j t s n at turned there. f.order i j t s n (ap (λ xs. get_elem? xs i) (sym k) ∙ at) turned (ap (λ xs. get_elem? xs j) (sym h) ∙ there);
   toggled = λ i t at. f.toggled i t (ap (λ xs. get_elem? xs i) (sym k) ∙ at);
   seen = λ j s at. f.seen j s (ap (λ xs. get_elem? xs j) (sym h) ∙ at);
+  toggles_rise = λ i j s t lt at there. f.toggles_rise i j s t lt (ap (λ xs. get_elem? xs i) (sym k) ∙ at) (ap (λ xs. get_elem? xs j) (sym k) ∙ there);
+  sights_rise = λ i j s t lt at there. f.sights_rise i j s t lt (ap (λ xs. get_elem? xs i) (sym h) ∙ at) (ap (λ xs. get_elem? xs j) (sym h) ∙ there);
 }
+
+-- what stands before an element of a list stands there without one more at the end
+before_snoc : {A : Type 0} (xs : List A) (x s t : A) (i j : ℕ) → i < j → get_elem? xs j ≡ some t → get_elem? (xs ++ x ∷ []) i ≡ some s → get_elem? xs i ≡ some s
+before_snoc [] x s t i j lt there at = absurd (some-ne-none t (sym there))
+before_snoc (y ∷ ys) x s t zero j lt there at = at
+before_snoc (y ∷ ys) x s t (suc i) zero lt there at = absurd (omega arith)
+before_snoc (y ∷ ys) x s t (suc i) (suc j) lt there at = before_snoc ys x s t i j (omega arith) there at
+
+-- one more at the end of a list whose steps rise, and are at most that one's
+rise_more : {A : Type 0} (step : A → ℕ) (xs : List A) (x : A) (m : ℕ) → step x ≡ m → ((i : ℕ) (s : A) → get_elem? xs i ≡ some s → step s ≤ m)
+    → ((i j : ℕ) (s t : A) → i < j → get_elem? xs i ≡ some s → get_elem? xs j ≡ some t → step s ≤ step t)
+    → (i j : ℕ) (s t : A) → i < j → get_elem? (xs ++ x ∷ []) i ≡ some s → get_elem? (xs ++ x ∷ []) j ≡ some t → step s ≤ step t
+rise_more step xs x m now low rise i j s t lt at there = ⊎_elim
+    (λ was. rise i j s t lt (before_snoc xs x s t i j lt was at) was)
+    (λ (new : x ≡ t). let late : step t ≡ m = ap step (sym new) ∙ now in ⊎_elim
+    (λ old. let early = low i s old in omega (arith, early, late))
+    (λ (same : x ≡ s). let even : step s ≡ m = ap step (sym same) ∙ now in omega (arith, even, late))
+    (at_snoc xs x s i at))
+    (at_snoc xs x t j there)
 
 -- a new sight, which is of now: what toggles of its binding have come to is at most its number
 pub ordered_seen : (d e : Deeds) (m : ℕ) (s : Sight) → e.sights ≡ d.sights ++ s ∷ [] → e.toggles ≡ d.toggles → s.step ≡ m
@@ -178,6 +199,8 @@ ordered_seen d e m s h k now low f = record {
       (at_snoc d.sights s u j (ap (λ xs. get_elem? xs j) (sym h) ∙ there));
   toggled = λ i t at. f.toggled i t (ap (λ xs. get_elem? xs i) (sym k) ∙ at);
   seen = λ j u at. ⊎_elim (λ was. f.seen j u was) (λ (new : s ≡ u). let late : u.step ≡ m = ap (λ (y : Sight). y.step) (sym new) ∙ now in omega arith) (at_snoc d.sights s u j (ap (λ xs. get_elem? xs j) (sym h) ∙ at));
+  toggles_rise = λ i j t u lt at there. f.toggles_rise i j t u lt (ap (λ xs. get_elem? xs i) (sym k) ∙ at) (ap (λ xs. get_elem? xs j) (sym k) ∙ there);
+  sights_rise = λ i j t u lt at there. rise_more (λ (y : Sight). y.step) d.sights s m now f.seen f.sights_rise i j t u lt (ap (λ xs. get_elem? xs i) (sym h) ∙ at) (ap (λ xs. get_elem? xs j) (sym h) ∙ there);
 }
 
 -- a new toggle, which is of now: the numbers drawn of its binding are below its count
@@ -191,6 +214,8 @@ ordered_toggled d e m t h k now low f = record {
       (at_snoc d.toggles t u i (ap (λ xs. get_elem? xs i) (sym k) ∙ at));
   toggled = λ i u at. ⊎_elim (λ was. f.toggled i u was) (λ (new : t ≡ u). let late : u.step ≡ m = ap (λ (y : Toggle). y.step) (sym new) ∙ now in omega arith) (at_snoc d.toggles t u i (ap (λ xs. get_elem? xs i) (sym k) ∙ at));
   seen = λ j s at. f.seen j s (ap (λ xs. get_elem? xs j) (sym h) ∙ at);
+  toggles_rise = λ i j s u lt at there. rise_more (λ (y : Toggle). y.step) d.toggles t m now f.toggled f.toggles_rise i j s u lt (ap (λ xs. get_elem? xs i) (sym k) ∙ at) (ap (λ xs. get_elem? xs j) (sym k) ∙ there);
+  sights_rise = λ i j s u lt at there. f.sights_rise i j s u lt (ap (λ xs. get_elem? xs i) (sym h) ∙ at) (ap (λ xs. get_elem? xs j) (sym h) ∙ there);
 }
 
 -- a toggle that turned counts

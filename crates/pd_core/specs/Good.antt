@@ -64,13 +64,17 @@ pub record Done (p : Layout) (words : List ℕ) (limit : ℕ → ℕ) (own : Dee
   -- a toggle's count is at most the limit
   pub toggle_is : (b n : ℕ) → b < bindings p → 0 < over (toggles_at b n) own taken → n ≤ limit b
 
--- Within a view's own steps each toggle's count is above the numbers drawn before it, and at most those drawn after it
+-- Within a view's own steps, whose sights and toggles stand in order, each toggle's count is above the numbers drawn before it, and at most
+-- those drawn after it
 pub record Ordered (own : Deeds) (steps : ℕ) : Type 0 where
   pub order : (i j : ℕ) (t : Toggle) (s : Sight) (n : ℕ) → get_elem? own.toggles i ≡ some t → did_turn t ≡ true → get_elem? own.sights j ≡ some s → s.binding ≡ t.binding → number_in s.drawn ≡ Some n
       → (s.step < t.step → n < sum_in t.found) × (t.step < s.step → sum_in t.found ≤ n)
   -- each was made by a step that was taken
   pub toggled : (i : ℕ) (t : Toggle) → get_elem? own.toggles i ≡ some t → t.step ≤ steps
   pub seen : (j : ℕ) (s : Sight) → get_elem? own.sights j ≡ some s → s.step ≤ steps
+  -- and the lists are in the order of the steps
+  pub toggles_rise : (i j : ℕ) (s t : Toggle) → i < j → get_elem? own.toggles i ≡ some s → get_elem? own.toggles j ≡ some t → s.step ≤ t.step
+  pub sights_rise : (i j : ℕ) (s t : Sight) → i < j → get_elem? own.sights i ≡ some s → get_elem? own.sights j ≡ some t → s.step ≤ t.step
 
 -- What one pass did: a toggle that found nothing to change, and not "disposed", has an answer among all views. A disable has
 -- some disable. Where it came after a toggle of the other kind with the count c, it has one of its own kind with a count of

@@ -184,7 +184,7 @@ no_deeds = record { sights = []; made = []; firsts = []; late = []; counts = [];
 
 -- the view of a seat that was joined away, with nothing in it
 abbrev pub spent_view : View
-spent_view = record { seat_share = 0; draw_share = 0; found_attached = []; found_disposed = []; deeds = no_deeds; taken = []; attaching = None; loads = []; loaded = None; cleared = []; talk = silent; steps = 0; last = record { word = 0; operand = 0; found = 0 } }
+spent_view = record { seat_share = 0; draw_share = 0; found_attached = []; found_disposed = []; deeds = no_deeds; taken = []; attaching = None; loads = []; loaded = None; cleared = []; talk = silent; steps = 0; last = record { word = 0; operand = 0; second = 0; found = 0 } }
 
 -- the first pass has all shares
 abbrev pub first_view : View
@@ -311,9 +311,13 @@ spoke t v = record v { talk = t }
 abbrev pub talk_of : View → Talk
 talk_of v = v.talk
 
--- a step is counted, and its word, its operand and what it found there are kept
+-- a step is counted, and its word, its two operands and what it found there are kept
+abbrev pub noted_with : ℕ → ℕ → ℕ → ℕ → View → View
+noted_with word operand second found v = record v { steps = v.steps + 1; last = record { word = word; operand = operand; second = second; found = found } }
+
+-- the same of a step with one operand, which leaves of its word what that makes of it
 abbrev pub noted : ℕ → ℕ → ℕ → View → View
-noted word operand found v = record v { steps = v.steps + 1; last = record { word = word; operand = operand; found = found } }
+noted word operand found v = noted_with word operand 0 found v
 
 -- what a split hands of the draws
 abbrev pub handed_share : ℕ

@@ -69,7 +69,7 @@ impl Model for Pass {
 // Loads the word.
 fn read<J: Doing>(words: &Words, seat: &mut Seat<u8, View>, word: usize, a: u32, b: u32) -> u64
     requires { (seat.old.table_id ≡ words.now.table_id) × (word < words.now.table_id.words) × (J.layout ≡ words.now.key) × Admits words.now.key J.kind words.now.table_id.slots seat.old.id seat.old.me word reads }
-    ensures { (seat.new.table_id ≡ seat.old.table_id) × Told J.layout J.kind word (operand reads) seat.old.me result seat.new.me }
+    ensures { (seat.new.table_id ≡ seat.old.table_id) × Told J.layout J.kind word (operand reads) 0 seat.old.me result seat.new.me }
 {
     words.load::<Does<J>>(seat, word)
 }
@@ -84,7 +84,7 @@ fn add<J: Doing>(
     b: u32,
 ) -> u64
     requires { (seat.old.table_id ≡ words.now.table_id) × (word < words.now.table_id.words) × (J.layout ≡ words.now.key) × Admits words.now.key J.kind words.now.table_id.slots seat.old.id seat.old.me word (adds k) }
-    ensures { (seat.new.table_id ≡ seat.old.table_id) × Told J.layout J.kind word (operand (adds k)) seat.old.me result seat.new.me }
+    ensures { (seat.new.table_id ≡ seat.old.table_id) × Told J.layout J.kind word (operand (adds k)) 0 seat.old.me result seat.new.me }
 {
     words.fetch_add::<Does<J>>(seat, word, k)
 }
@@ -99,7 +99,7 @@ fn set<J: Doing>(
     b: u32,
 ) -> u64
     requires { (seat.old.table_id ≡ words.now.table_id) × (word < words.now.table_id.words) × (J.layout ≡ words.now.key) × Admits words.now.key J.kind words.now.table_id.slots seat.old.id seat.old.me word (sets k) }
-    ensures { (seat.new.table_id ≡ seat.old.table_id) × Told J.layout J.kind word (operand (sets k)) seat.old.me result seat.new.me }
+    ensures { (seat.new.table_id ≡ seat.old.table_id) × Told J.layout J.kind word (operand (sets k)) 0 seat.old.me result seat.new.me }
 {
     words.fetch_or::<Does<J>>(seat, word, k)
 }
@@ -114,7 +114,7 @@ fn leave<J: Doing>(
     b: u32,
 ) -> u64
     requires { (seat.old.table_id ≡ words.now.table_id) × (word < words.now.table_id.words) × (J.layout ≡ words.now.key) × Admits words.now.key J.kind words.now.table_id.slots seat.old.id seat.old.me word (leaves k) }
-    ensures { (seat.new.table_id ≡ seat.old.table_id) × Told J.layout J.kind word (operand (leaves k)) seat.old.me result seat.new.me }
+    ensures { (seat.new.table_id ≡ seat.old.table_id) × Told J.layout J.kind word (operand (leaves k)) 0 seat.old.me result seat.new.me }
 {
     words.fetch_and::<Does<J>>(seat, word, k)
 }

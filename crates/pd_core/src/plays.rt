@@ -61,7 +61,7 @@ pub(crate) struct Does<J> {
 impl<J: Doing> Play<u8, View> for Does<J> {
     ghost use Rattle.pd_core.specs.Steps.{Told};
 
-    ghost then = { λ s me found me'. Told J.layout J.kind s.word s.first me found me' };
+    ghost then = { λ s me found me'. Told J.layout J.kind s.word s.first s.second me found me' };
 }
 
 /// How a view is cut in two at a split, and how two become one at a join.

@@ -75,10 +75,11 @@ pub struct Talk {
     pub ends: u64,
 }
 
-/// The last step on the table: its word, its operand, and what it found there.
+/// The last step on the table: its word, its operands, of which a step of ours has just one, and what it found there.
 pub struct Did {
     pub word: u64,
     pub operand: u64,
+    pub second: u64,
     pub found: u64,
 }
 

@@ -51,6 +51,7 @@ use Rattle.std.specs.Coded.{coded_ℕ, coded_bool, le_prop}
 use base.Stored.{Coded-set}
 use Rattle.pd_shared.proofs.ActLemmas.{not_flag, yes_or_no, gone_there, attached_there}
 use Rattle.pd_shared.proofs.NumberLemmas.{over_own, off_fits, toggles_in, toggles_are}
+use Rattle.pd_shared.proofs.SettledLemmas.{disables_settled, enables_settled}
 use Rattle.pd_shared.proofs.CauseLemmas.{cause_since, cause_of, disables_from_is, enables_from_is, each_left}
 use Rattle.pd_shared.proofs.AllLemmas.{some_weight, total_same, count_total, any_none, any_some, filter_total, map_total, over_total, all_all, late_weight, firsts_is, lates_is, makings_is, disposals_is, first_splits, finals_in, disables_is, enables_is, number_weight, numbers_is, numbers_counted, places, over_splits, sights_fit}
 
@@ -242,16 +243,27 @@ module _ (p : Layout) (ws : List ℕ) (views : List View) (id : ℕ) (v : View) 
   counted : TogglesUpTo b (g.limit b) rs
   counted = all_all (λ e. e.replies) CountsLow (λ r. ForSome (toggle_count b r) (λ c. c ≤ g.limit b)) counted_one own.replies left v.taken (counted_one v.deeds own did (low v.deeds (λ c. of_own (toggles_at b c)))) others (λ k d e. low d (λ c. of_other (toggles_at b c) k d e))
 
-  toggles : (n : ℕ) → g.limit b ≤ n → (is_off : Bool) × IsMissed b n is_off rs
-  toggles n past = ⊎_elim
-      (λ (z : disposed w ≡ 0). let sum = (g.switched b lt).on n past z in ⊎_elim
-      (λ (on : off w ≡ 0). (false, (let q : how_many (disables_upto b n) rs ≡ how_many (enables_upto b n) rs + 0 = omega (arith, disables_all n, enables_all n) in q)))
-      (λ (gone : off w ≡ 1). (true, (let q : how_many (disables_upto b n) rs ≡ how_many (enables_upto b n) rs + 1 = omega (arith, disables_all n, enables_all n) in q)))
-      (zero_or_one (off w) (off_fits w)))
-      (λ (one : disposed w ≡ 1). ⊎_elim
-      (λ e. (false, (let q : how_many (disables_upto b n) rs ≡ how_many (enables_upto b n) rs + 0 = omega (arith, e, disables_all n, enables_all n) in q)))
-      (λ e. (true, (let q : how_many (disables_upto b n) rs ≡ how_many (enables_upto b n) rs + 1 = omega (arith, e, disables_all n, enables_all n) in q)))
-      ((g.switched b lt).gone n past one))
+  -- while it isn't disposed, by its word
+  pub off_by_word : disposed w ≡ 0 → (n : ℕ) → g.limit b ≤ n → IsMissed b n (off w == 1) rs
+  off_by_word z n past = let sum = (g.switched b lt).on n past z in ⊎_elim
+      (λ (on : off w ≡ 0). subst (λ (s : Bool). IsMissed b n s rs) (sym (ne_eqb (off w) 1 (λ q. omega arith))) (let q : how_many (disables_upto b n) rs ≡ how_many (enables_upto b n) rs + 0 = omega (arith, disables_all n, enables_all n) in q))
+      (λ (one : off w ≡ 1). subst (λ (s : Bool). IsMissed b n s rs) (sym (eq-eqb (off w) 1 one)) (let q : how_many (disables_upto b n) rs ≡ how_many (enables_upto b n) rs + 1 = omega (arith, disables_all n, enables_all n) in q))
+      (zero_or_one (off w) (off_fits w))
+
+  -- and else as it was at the limit, since no toggle has a greater count
+  settled : (s : Bool) → IsMissed b (g.limit b) s rs → (n : ℕ) → g.limit b ≤ n → IsMissed b n s rs
+  settled s at_limit n past = disables_settled b (g.limit b) n rs past counted ∙ (at_limit ∙ ap (λ k. k + (if s then 1 else 0)) (sym (enables_settled b (g.limit b) n rs past counted)))
+
+  at_limit : disposed w ≡ 1 → (s : Bool) × IsMissed b (g.limit b) s rs
+  at_limit one = ⊎_elim
+      (λ e. (false, (let q : how_many (disables_upto b (g.limit b)) rs ≡ how_many (enables_upto b (g.limit b)) rs + 0 = omega (arith, e, disables_all (g.limit b), enables_all (g.limit b)) in q)))
+      (λ e. (true, (let q : how_many (disables_upto b (g.limit b)) rs ≡ how_many (enables_upto b (g.limit b)) rs + 1 = omega (arith, e, disables_all (g.limit b), enables_all (g.limit b)) in q)))
+      ((g.switched b lt).gone (g.limit b) (omega arith) one)
+
+  toggles : (is_off : Bool) × ((n : ℕ) → g.limit b ≤ n → IsMissed b n is_off rs)
+  toggles = ⊎_elim
+      (λ (z : disposed w ≡ 0). (off w == 1, off_by_word z))
+      (λ (one : disposed w ≡ 1). let found = at_limit one in (found.0, settled found.0 found.1))
       (zero_or_one (disposed w) (disposed_fits w))
 
   -- a number that is a place, and one that is missed
@@ -307,6 +319,10 @@ module _ (p : Layout) (ws : List ℕ) (views : List View) (id : ℕ) (v : View) 
     each_left (Answered there) (EachAfter (HasCause b rs)) cause_one left v.taken others (λ k d e. g.answered id v at d (inr (k, e))),
   )
 
+  -- the same by the tally
+  pub offs_of_all : (seats : ℕ) (counts : List ℕ) → IsHeld p v seats counts → disposed w ≡ 0 → (n : ℕ) → (tally_by w (slice_index counts b)).count ≤ n → IsMissed b n (off w == 1) rs
+  offs_of_all seats counts h z n past = off_by_word z n (subst (λ (m : ℕ). m ≤ n) (count seats counts h) past)
+
   pub outcome_of_all : (seats : ℕ) (counts : List ℕ) → IsHeld p v seats counts → IsOutcomeOfAll b ss rs (tally_by w (slice_index counts b))
   outcome_of_all seats counts h =
       let is = count seats counts h in
@@ -318,7 +334,7 @@ module _ (p : Layout) (ws : List ℕ) (views : List View) (id : ℕ) (v : View) 
         disposals = disposals_are;
         final = subst (λ (n : ℕ). All (λ r. ForSome (disposal b r) (λ m. m ≡ n)) rs) (sym is) finals;
         counted = subst (λ (n : ℕ). TogglesUpTo b n rs) (sym is) counted;
-        toggles = λ n past. toggles n (subst (λ (m : ℕ). m ≤ n) is past);
+        toggles = (toggles.0, λ n past. toggles.1 n (subst (λ (m : ℕ). m ≤ n) is past));
         toggled = fits;
       }
 
@@ -407,6 +423,7 @@ closed p last ws tallies counts end tied held are answers =
           states = λ b lt. state_of (binding_word p ws b) (slice_index last.counts.items b) (slice_index_or tallies b no_tally) (are.each b lt);
           sums = λ b lt. sum_of (binding_word p ws b) (slice_index last.counts.items b) (slice_index_or tallies b no_tally) (are.each b lt);
           answers = answers.each;
+          offs = λ whole left did b lt z n past. offs_of_all p ws end.0 end.2.0 last.pass.view end.1 end.2.1 (all whole) last.journal left tied.deeds did b lt last.seats last.counts.items held z n (subst (λ (t : BindingTally). t.count ≤ n) (are.each b lt) past);
         },
       );
       known_gone = gone;

@@ -14,6 +14,7 @@ pub mod MergeLemmas
 pub mod LeftLemmas
 pub mod AllLemmas
 pub mod CauseLemmas
+pub mod SettledLemmas
 pub mod CloseLemmas
 pub mod StepLemmas
 pub mod CostLemmas

@@ -13,7 +13,7 @@ use Rattle.pd_board.specs.Kept.{numbers_of, IsMissed, FitsToggles, EachAfter}
 use Rattle.pd_board.specs.Order.{has_gone, IsInOrder, is_first, HasCause, OnceBelow}
 use Rattle.pd_board.specs.Tally.{state_by, no_tally}
 use Rattle.pd_core.specs.Layout.{Layout, bindings, binding_word, session_word}
-use Rattle.pd_core.specs.Words.{attached, disposed, sum_in}
+use Rattle.pd_core.specs.Words.{attached, disposed, off, sum_in}
 use Rattle.pd_core.specs.Talks.{ends_of}
 use Rattle.pd_core.specs.Good.{Ordered}
 use Rattle.pd_core.specs.Runs.{IsLast}
@@ -56,7 +56,7 @@ pub record IsOutcomeOfAll (b : ℕ) (sights : List Sight) (replies : List ActRes
   pub final : All (λ r. ForSome (disposal b r) (λ n. n ≡ t.count)) replies
   -- each toggle found at most this count; of all of them the disables are as many as the enables, or one more
   pub counted : TogglesUpTo b t.count replies
-  pub toggles : (n : ℕ) → t.count ≤ n → (off : Bool) × IsMissed b n off replies
+  pub toggles : (off : Bool) × ((n : ℕ) → t.count ≤ n → IsMissed b n off replies)
   -- and each number is a place, or missed, as the toggles up to it say
   pub toggled : All (FitsToggles b replies) sights
 
@@ -86,16 +86,19 @@ pub record FitsTally (p : Layout) (tallies : List BindingTally) (counts : List �
 
 -- ---- all together
 
+-- the token has all shares of the seats
+abbrev pub IsWhole : Token → Type 0
+IsWhole t = 2 ^ 32 ≤ t.pass.view.seat_share
+
 -- the tallies and the numbers of answers are those of last words of which the rule holds with the last view
 pub record IsOfWords (p : Layout) (last : Token) (tallies : List BindingTally) (counts : List ℕ) (words : List ℕ) : Type 0 where
   pub last_is : IsLast p last.pass.view words
   pub states : (b : ℕ) → b < bindings p → (slice_index_or tallies b no_tally).state ≡ state_by (disposed (binding_word p words b) == 1) (attached (binding_word p words b) == 1)
   pub sums : (b : ℕ) → b < bindings p → disposed (binding_word p words b) ≡ 0 → (slice_index_or tallies b no_tally).count ≡ sum_in (binding_word p words b)
   pub answers : (s : ℕ) → s < p.sessions → slice_index counts s ≡ session_word p words s
-
--- the token has all shares of the seats
-abbrev pub IsWhole : Token → Type 0
-IsWhole t = 2 ^ 32 ≤ t.pass.view.seat_share
+  -- where a binding isn't disposed, the toggles of all seats together leave it off just where its word says so
+  pub offs : IsWhole last → (left : List Sights) → DidLeave left last.pass.view.taken → (b : ℕ) → b < bindings p → disposed (binding_word p words b) ≡ 0
+      → (n : ℕ) → (slice_index_or tallies b no_tally).count ≤ n → IsMissed b n (off (binding_word p words b) == 1) (all_replies last.journal left)
 
 -- The tallies of the bindings, and for each session its number of answers. Where the last token has all shares of the seats, they tell what
 -- its seat and all that this took in did
