@@ -32,7 +32,7 @@ use Rattle.pd_eval.specs.Watching.{HasObeyed, IsCounted, IsRan, Stands, keep, ra
 abbrev pub HasTurned : Program → Held → Held → Turn → Type 0
 HasTurned p m m' t = DoesTelling p (λ v e. due_at p v m.mode m.stack m.left e) (λ stack s. mode_turn p [] m.mode stack s) m m' t
 
-turn_is : (p : Program) (v : Verdicts) (m : Held) (es : List Told) → turn p v (with_events m es) ≡ mode_turn p v m.mode m.stack (state_of m es)
+pub turn_is : (p : Program) (v : Verdicts) (m : Held) (es : List Told) → turn p v (with_events m es) ≡ mode_turn p v m.mode m.stack (state_of m es)
 unfolding turn
 turn_is p v m es = refl
 
@@ -105,7 +105,7 @@ module _ (p : Program) (fuel root : ℕ) (es : List Told) (kept : Verdicts) (m :
         ∙ ap (λ d. obeyed d (with_events m' told)) (sym due_is)
         ∙ ap (obeyed (due p more M)) (turned.0 es count ∙ sym (turn_is p [] m es))
 
-    told_turn : with_events m'' told ≡ turn p more M
+    pub told_turn : with_events m'' told ≡ turn p more M
     told_turn = obeyed_is ∙ sym (turn_obeys p more M)
 
     pub told_lowers : weight (with_events m'' told) < weight M
@@ -153,16 +153,16 @@ over_means p fuel root entry es kept m item over s =
 -- ---- what a run's calls say
 
 pub served_stands : (p : Program) (r : Result (Unit {0}) AllocError) (es es' : List Told) (kept kept' : Verdicts) (m m' m'' : Held) (x : Event) (going : IsOver m → ⊥) (turned : HasTurned p m m' (Tells x)) → IfOk r (λ _. es' ≡ es ++ record { event = x; scene = standing x.node (scene_of m') } ∷ []) → IfOk r (λ _. (v : Verdict) × (kept' ≡ keep kept x.number v) × HasObeyed p x v m' m'') → IfOk r (λ _. (fuel root : ℕ) → Stands p fuel root es kept m → Stands p fuel root es' kept' m'')
-served_stands p (Err e) es es' kept kept' m m' m'' x going turned told answered = tt
-served_stands p (Ok u) es es' kept kept' m m' m'' x going turned told answered = λ fuel root s.
+served_stands p (Err e) es es' kept kept' m m' m'' x going turned heard answered = tt
+served_stands p (Ok u) es es' kept kept' m m' m'' x going turned heard answered = λ fuel root s.
     subst (λ ks. Stands p fuel root es' ks m'') (sym answered.1)
-    (subst (λ zs. Stands p fuel root zs (keep kept x.number answered.0) m'') (sym told)
+    (subst (λ zs. Stands p fuel root zs (keep kept x.number answered.0) m'') (sym heard)
     (told_stands p fuel root es kept m going m' m'' x answered.0 turned answered.2 s.count s.below s))
 
-pub served_lowers : (p : Program) (r : Result (Unit {0}) AllocError) (es es' : List Told) (kept kept' : Verdicts) (m m' m'' : Held) (x : Event) (going : IsOver m → ⊥) (turned : HasTurned p m m' (Tells x)) → IfOk r (λ _. es' ≡ es ++ record { event = x; scene = standing x.node (scene_of m') } ∷ []) → IfOk r (λ _. (v : Verdict) × (kept' ≡ keep kept x.number v) × HasObeyed p x v m' m'') → IfOk r (λ _. IsCounted es kept m → weight (with_events m'' es') < weight (with_events m es))
-served_lowers p (Err e) es es' kept kept' m m' m'' x going turned told answered = tt
-served_lowers p (Ok u) es es' kept kept' m m' m'' x going turned told answered = λ counted.
-    subst (λ zs. weight (with_events m'' zs) < weight (with_events m es)) (sym told)
+pub served_lowers : (p : Program) (r : Result (Unit {0}) AllocError) (es es' : List Told) (kept kept' : Verdicts) (m m' m'' : Held) (x : Event) (going : IsOver m → ⊥) (counted : IsCounted es kept m) (turned : HasTurned p m m' (Tells x)) → IfOk r (λ _. es' ≡ es ++ record { event = x; scene = standing x.node (scene_of m') } ∷ []) → IfOk r (λ _. (v : Verdict) × (kept' ≡ keep kept x.number v) × HasObeyed p x v m' m'') → IfOk r (λ _. weight (with_events m'' es') < weight (with_events m es))
+served_lowers p (Err e) es es' kept kept' m m' m'' x going counted turned heard answered = tt
+served_lowers p (Ok u) es es' kept kept' m m' m'' x going counted turned heard answered =
+    subst (λ zs. weight (with_events m'' zs) < weight (with_events m es)) (sym heard)
     (told_lowers p 0 0 es kept m going m' m'' x answered.0 turned answered.2 counted.0 counted.1)
 
 -- the answer of a run that is over

@@ -1,6 +1,6 @@
 -- Definition: `keep`, `GivesNoFunction` and `IsRan`; the rest is for proofs.
 -- What a watcher keeps, and how a machine and its watcher stand for a point of the meaning.
-use Rattle.std.specs.Prelude.{◌≡◌, ℕ, ◌+◌, ◌*◌, ◌-◌, ◌≤◌, if◌then◌else◌, List, [], ◌∷◌, ◌++◌, length}
+use Rattle.std.specs.Prelude.{◌≡◌, ℕ, ◌+◌, ◌*◌, ◌-◌, ◌^◌, ◌<◌, ◌≤◌, if◌then◌else◌, List, [], ◌∷◌, ◌++◌, length}
 use Rattle.pd_values.specs.declared.value.Value.TheVariants.{Func}
 use Rattle.pd_tree.specs.Program.{Program}
 use Rattle.pd_machine.specs.declared.event.Event.{Event}
@@ -10,11 +10,12 @@ use Rattle.pd_machine.specs.Events.{Told}
 use Rattle.pd_machine.specs.Held.{Held, end_at}
 use Rattle.pd_meaning.specs.Meaning.{Ran, Verdicts}
 use Rattle.pd_eval.specs.declared.running.Ran.{Ran as Answered}
-use Rattle.pd_meaning.specs.Machine.{obeyed}
+use Rattle.pd_meaning.specs.Machine.{Machine, obeyed}
 use Rattle.pd_meaning.specs.Steps.{with_events}
 use Rattle.pd_meaning.specs.Telling.{is_heeded}
 use Rattle.pd_meaning.specs.Weight.{weight}
 use Rattle.pd_meaning.specs.Leads.{AllBelow, LeadsUnder}
+use Rattle.pd_order.specs.Standing.{IsOrderly}
 
 -- the verdicts kept, with one more on the event of this number; go is not kept
 abbrev pub keep : Verdicts → ℕ → Verdict → Verdicts
@@ -49,6 +50,14 @@ pub record Stands (p : Program) (fuel root : ℕ) (es : List Told) (kept : Verdi
 -- a machine knows the number of events told, and the verdicts kept are on these
 abbrev pub IsCounted : List Told → Verdicts → Held → Type 0
 IsCounted es kept m = (length es ≡ m.told) × AllBelow (length es) kept
+
+-- the greatest fuel of a run
+abbrev pub most_fuel : ℕ
+most_fuel = 2 ^ 24
+
+-- a machine, with the events that it told, between two turns of a run
+abbrev pub IsOrderlyIn : Program → Machine → Type 0
+IsOrderlyIn p m = IsOrderly (λ n. n < length p.nodes) (length p.nodes) most_fuel m
 
 -- what a machine that is over has, with these events told
 abbrev pub ran_by : Held → List Told → Ran

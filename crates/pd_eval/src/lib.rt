@@ -2,6 +2,7 @@
 #![tactic(auto)]
 
 mod entering;
+mod heard;
 mod opening;
 mod results;
 mod running;
@@ -9,6 +10,7 @@ mod starting;
 mod turning;
 mod watching;
 
+pub use heard::Heard;
 pub use running::{Ran, run};
 pub use turning::turn;
 pub use watching::Watcher;

@@ -1,11 +1,12 @@
 //! A whole run.
-ghost use Rattle.std.specs.Prelude.{◌≡◌, ◌+◌, ◌^◌, ◌<◌, ◌≤◌, [], ℕ, IfOk, Some};
+ghost use Rattle.std.specs.Prelude.{◌≡◌, ◌+◌, ◌^◌, ◌<◌, ◌≤◌, [], ℕ, length, IfOk, Some};
 ghost use Rattle.pd_tree.specs.Program.{item_at};
+ghost use Rattle.pd_tree.specs.WellFormed.{IsWellFormed};
 ghost use Rattle.pd_machine.specs.Held.{IsOver};
 ghost use Rattle.pd_meaning.specs.Meaning.{meaning_of};
 ghost use Rattle.pd_meaning.specs.Steps.{with_events};
 ghost use Rattle.pd_meaning.specs.Weight.{weight};
-ghost use Rattle.pd_eval.specs.Watching.{IsCounted, IsRan, Stands};
+ghost use Rattle.pd_eval.specs.Watching.{IsCounted, IsOrderlyIn, IsRan, Stands};
 
 use crate::opening::open_machine;
 use crate::turning::turn;
@@ -25,7 +26,8 @@ pub struct Ran {
     pub events: u32,
 }
 
-/// Runs a program from an item with so much fuel, at most 16,777,216, under a watcher that was told nothing before.
+/// Runs a program from an item with so much fuel, at most 16,777,216, under a watcher that was told nothing before and
+/// is ready for a program of so many nodes.
 /// Where it answers, the watcher was told exactly the events that the program means under the verdicts that it keeps,
 /// and the answer is the output, the end, the fuel used and the number of events that it means. Where memory runs out,
 /// or the watcher errs, it gives `AllocError`, and the watcher has been told some events. In each case what the
@@ -38,11 +40,15 @@ pub fn run<W: Watcher>(
     w: &mut W,
 ) -> Result<Ran, AllocError>
     requires fuel { fuel ≤ 2 ^ 24 }
+    requires nodes { W.nodes (W.fixed w.old) ≡ length program.now.nodes }
+    requires ready { W.ready w.old }
     requires no_events { W.events w.old ≡ [] }
     requires no_verdicts { W.kept w.old ≡ [] }
+    ensures ready { IfOk result (λ _. W.ready w.new) }
     ensures ran { IfOk result (λ r. IsRan r (W.events w.new) (meaning_of program.now entry fuel (W.kept w.new))) }
     ensures fixed { W.fixed w.new ≡ W.fixed w.old }
 {
+    program.is_linked();
     match root_of(program, entry) {
         Some(root) => run_from(alloc, program, root, fuel, w),
         None => Ok(Ran {
@@ -63,8 +69,13 @@ fn run_from<W: Watcher>(
     w: &mut W,
 ) -> Result<Ran, AllocError>
     requires fuel { fuel ≤ 2 ^ 24 }
+    requires root { root < length program.now.nodes }
+    requires linked { IsWellFormed program.now }
+    requires nodes { W.nodes (W.fixed w.old) ≡ length program.now.nodes }
+    requires ready { W.ready w.old }
     requires no_events { W.events w.old ≡ [] }
     requires no_verdicts { W.kept w.old ≡ [] }
+    ensures ready { IfOk result (λ _. W.ready w.new) }
     ensures ran { IfOk result (λ r. (entry : ℕ) → (item_at program.now entry).root ≡ Some root → IsRan r (W.events w.new) (meaning_of program.now entry fuel (W.kept w.new))) }
     ensures fixed { W.fixed w.new ≡ W.fixed w.old }
 {
@@ -90,8 +101,15 @@ fn step<W: Watcher>(
 ) -> Result<(), AllocError>
     requires going { IsOver m.old → ⊥ }
     requires room { m.old.told + 1 < 2 ^ 32 }
+    requires linked { IsWellFormed program.now }
+    requires nodes { W.nodes (W.fixed w.old) ≡ length program.now.nodes }
+    requires ready { W.ready w.old }
+    requires counted { IsCounted (W.events w.old) (W.kept w.old) m.old }
+    requires orderly { IsOrderlyIn program.now (with_events m.old (W.events w.old)) }
+    ensures ready { IfOk result (λ _. W.ready w.new) }
+    ensures orderly { IfOk result (λ _. IsOrderlyIn program.now (with_events m.new (W.events w.new))) }
     ensures stands { IfOk result (λ _. (fuel root : ℕ) → Stands program.now fuel root (W.events w.old) (W.kept w.old) m.old → Stands program.now fuel root (W.events w.new) (W.kept w.new) m.new) }
-    ensures lowers { IfOk result (λ _. IsCounted (W.events w.old) (W.kept w.old) m.old → weight (with_events m.new (W.events w.new)) < weight (with_events m.old (W.events w.old))) }
+    ensures lowers { IfOk result (λ _. weight (with_events m.new (W.events w.new)) < weight (with_events m.old (W.events w.old))) }
     ensures fixed { W.fixed w.new ≡ W.fixed w.old }
 {
     match turn(alloc, m, program)? {

@@ -1,5 +1,5 @@
 //! A watcher of a run, and how its answers are obeyed.
-ghost use Rattle.std.specs.Prelude.{◌≡◌, ◌++◌, ◌∷◌, [], List, IfOk};
+ghost use Rattle.std.specs.Prelude.{◌≡◌, ◌<◌, ◌^◌, ◌++◌, ◌∷◌, [], ℕ, List, IfOk};
 ghost use Rattle.pd_tree.specs.Program.{has_tag, node_at};
 ghost use Rattle.pd_machine.specs.declared.event.Verdict.{Verdict as Answer};
 ghost use Rattle.pd_machine.specs.declared.run.Mode.TheVariants.{Coming};
@@ -8,6 +8,7 @@ ghost use Rattle.pd_machine.specs.Events.{Told, from_outermost, standing};
 ghost use Rattle.pd_machine.specs.Held.{scene_of};
 ghost use Rattle.pd_meaning.specs.Meaning.{Verdicts};
 ghost use Rattle.pd_meaning.specs.Telling.{is_heeded};
+ghost use Rattle.pd_order.specs.Order.{IsNext, IsPlaced};
 ghost use Rattle.pd_eval.specs.Watching.{GivesNoFunction, HasObeyed, Obeys, keep};
 
 use pd_machine::{Cutoff, Event, EventKind, Machine, Mode, NodeResult, Scene, Verdict};
@@ -29,8 +30,21 @@ pub trait Watcher {
 
     ghost fixed: { Self → Self.Fixed };
 
-    /// An event, with the frames at it.
+    // How many nodes the program has whose run it is told.
+    ghost nodes: { Self.Fixed → ℕ };
+
+    // It has served each event so far.
+    ghost ready: { Self → Type 0 };
+
+    /// The next event of the run, with the frames at it. Its number, below 2^25, is how many events were told before; an
+    /// end is that of the innermost open activation; its depth is the number of frames; it and its frames stand at nodes
+    /// of the program. After an error no event is told any more.
     fn event(&mut self, event: &Event, scene: &Scene<'_>) -> Result<Verdict, AllocError>
+        requires ready { Self.ready self.old }
+        requires next { IsNext (events self.old) event.now }
+        requires placed { IsPlaced (Self.nodes (Self.fixed self.old)) event.now scene.now }
+        requires few { event.now.number < 2 ^ 25 }
+        ensures ready { IfOk result (λ _. Self.ready self.new) }
         ensures told { IfOk result (λ v. events self.new ≡ events self.old ++ record { event = event.now; scene = scene.now } ∷ []) }
         ensures kept { IfOk result (λ v. kept self.new ≡ keep (kept self.old) event.now.number v) }
         ensures values { IfOk result GivesNoFunction }
@@ -44,6 +58,11 @@ pub fn serve<W: Watcher>(
     event: Event,
     w: &mut W,
 ) -> Result<(), AllocError>
+    requires ready { W.ready w.old }
+    requires next { IsNext (W.events w.old) event }
+    requires placed { IsPlaced (W.nodes (W.fixed w.old)) event (standing event.node (scene_of m.old)) }
+    requires few { event.number < 2 ^ 25 }
+    ensures ready { IfOk result (λ _. W.ready w.new) }
     ensures told { IfOk result (λ _. W.events w.new ≡ W.events w.old ++ record { event = event; scene = standing event.node (scene_of m.old) } ∷ []) }
     ensures kept { IfOk result (λ _. (v : Answer) × (W.kept w.new ≡ keep (W.kept w.old) event.number v) × HasObeyed program.now event v m.old m.new) }
     ensures fixed { W.fixed w.new ≡ W.fixed w.old }

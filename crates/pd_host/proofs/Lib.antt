@@ -1,4 +1,3 @@
-pub mod Pairing
 pub mod Places
 pub mod LogLaws
 pub mod AttachingLaws

@@ -6,6 +6,8 @@ use Rattle.std.specs.Option.{option_map}
 use Rattle.std.proofs.lemmas.Bool.{and_parts, and_from, or_cases, or_left, or_right, cond-true, cond-false, le-leb, leb-true, lt-ltb, eqb-true, cases_Bool, false_from_ne_true, not_from_false, both_ways}
 use Rattle.std.proofs.lemmas.Option.{same_Some}
 use Rattle.std.proofs.lemmas.List.Elements.{All-head, All-tail}
+use Rattle.pd_machine.specs.declared.event.EventKind.{EventKind}
+use Rattle.pd_machine.specs.declared.event.EventKind.TheVariants.{Enter, Return, Leave}
 use Rattle.pd_machine.specs.Events.{Told}
 use Rattle.pd_plan.specs.declared.table.MatchTable.{MatchTable}
 use Rattle.pd_log.specs.declared.Entry.{Entry}
@@ -27,7 +29,7 @@ use Rattle.pd_observed.specs.Served.{IsServed}
 use Rattle.pd_observed.specs.Serving.{is_in}
 use Rattle.pd_observed.proofs.Lists.{list_all-weaker}
 use Rattle.pd_report.specs.Run.{entries_from, matching_events}
-use Rattle.pd_host.proofs.Pairing.{IsEnteredAt, IsPaired}
+use Rattle.pd_order.proofs.Pairing.{IsEnd, IsEnteredAt, IsPaired}
 use Rattle.pd_host.proofs.Places.{covered, numbers_in_order, count_from, counted_up}
 
 -- ---- lists
@@ -132,6 +134,12 @@ on_is_subject table events seen (s ∷ ss) e b h on =
     (λ (other : is_of e b s ≡ false). on_is_subject table events seen ss e b parts.1 (ap is_on (sym (cond-false (is_of e b s) s.drawn (answer_at ss e b) other)) ∙ on))
     (cases_Bool (is_of e b s))
 
+-- an event that is no Enter is an end
+is_end : (kind : EventKind) → is_enter kind ≡ false → IsEnd kind
+is_end Enter h = cc
+is_end (Return a) h = tt
+is_end (Leave c) h = tt
+
 -- an Enter is a subject event where its node stands in the row
 enter_subject : (table : MatchTable) (seen : List Sight) (b : ℕ) (t : Told) → is_enter t.event.kind ≡ true → is_subject table seen b t.event ≡ stands_in table b t.event.node
 enter_subject table seen b t h = cond-true (is_enter t.event.kind) (stands_in table b t.event.node) (is_on (answer_at seen t.event.opened b)) h
@@ -149,7 +157,7 @@ module _ (table : MatchTable) (events : List Told) (seen : List Sight) (b : ℕ)
   entered_given : (t : Told) (e : IsEnteredAt events t.event.node t.event.opened) → is_on (answer_at seen t.event.opened b) ≡ stands_in table b t.event.node
   entered_given t e =
       let number : e.enter.event.number ≡ t.event.opened = paired.numbers t.event.opened e.enter e.there in
-      let subject : is_subject table seen b e.enter.event ≡ stands_in table b t.event.node = enter_subject table seen b e.enter e.kind_is ∙ ap (stands_in table b) e.node_is in
+      let subject : is_subject table seen b e.enter.event ≡ stands_in table b t.event.node = enter_subject table seen b e.enter (ap is_enter e.kind_is) ∙ ap (stands_in table b) e.node_is in
       ⊎_elim
       (λ (stands : stands_in table b t.event.node ≡ true).
       ap (λ n. is_on (answer_at seen n b)) (sym number) ∙ subject_given t.event.opened e.enter e.there (subject ∙ stands) ∙ sym stands)
@@ -169,7 +177,7 @@ module _ (table : MatchTable) (events : List Told) (seen : List Sight) (b : ℕ)
       ⊎_elim
       (λ (enter : is_enter t.event.kind ≡ true). enter_subject table seen b t enter)
       (λ (end : is_enter t.event.kind ≡ false).
-      cond-false (is_enter t.event.kind) (stands_in table b t.event.node) (is_on (answer_at seen t.event.opened b)) end ∙ entered_given t (paired.ends_named k t at end))
+      cond-false (is_enter t.event.kind) (stands_in table b t.event.node) (is_on (answer_at seen t.event.opened b)) end ∙ entered_given t (paired.ends_named k t at (is_end t.event.kind end)))
       (cases_Bool (is_enter t.event.kind))
 
   pub subjects_match : subject_events table seen events b ≡ matching_events table events b

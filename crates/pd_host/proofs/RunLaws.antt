@@ -33,7 +33,7 @@ use Rattle.pd_report.specs.declared.report.Report.{Report}
 use Rattle.pd_report.specs.Run as report
 use Rattle.pd_report.specs.Run.{IsObserving, ran_of, is_among, attached_by, answers_behind, sessions_behind, entries_from, matching_events, log_for, IsCounted, IsBinding, IsOnBoard, IsRun}
 use Rattle.pd_host.specs.Attaching.{IsAttachedOn, HasRoom}
-use Rattle.pd_host.proofs.Pairing.{meaning_paired}
+use Rattle.pd_order.proofs.Pairing.{meaning_paired}
 use Rattle.pd_host.proofs.LogLaws.{attached_log, unattached_log}
 use Rattle.pd_host.proofs.AttachingLaws.{attachment-among, no_disposal, no_disables, sessions-joined, length-sessions}
 
@@ -161,7 +161,7 @@ module _ (plan : Plan) (p : Program) (first start now : Standing) (r : Report) (
         let known : start.known b ≡ knowns.Attached = on.known b ∙ cond-true (is_among (attached_by plan.sessions) b) knowns.Attached knowns.Fresh among in
         let lives : now.known b ≡ knowns.Attached = tally.known b (omega (arith, within, rows_are)) ∙ ap known_in live in
         let whole = attached_log now (slice_index_or context.logs b []) (ran_of plan p).events b tally_at
-        (meaning_paired p [] (slice_index p.entries 0) (report.fuel_of (slice_get plan.contexts 0)))
+        (meaning_paired p [] (report.fuel_of (slice_get plan.contexts 0)) (slice_index p.entries 0))
         observed_is.sights
         (subst (λ k. IsServed 0 k now (slice_index_or context.logs b []) (ran_of plan p).events b) known served_at)
         (λ e. absurd (cc (lives, e)))

@@ -36,7 +36,7 @@ pub record-of : (p : Program) (entry fuel context count : ℕ) (first mid last :
     → IsRan ran h.heard.events (meaning_of p entry fuel []) → IsKeptWith ran h r
     → IsRecord p entry fuel context first last r
 record-of p entry fuel context count first mid last before h ran r counted new kept starts contexts fixed last_is is_ran with =
-    let k : IsKeptAt (start_of h.start.items) h.next h.heard.events mid h.opens.items h.kept = kept.at_next in
+    let k : IsKeptAt (start_of h.start.items) (length h.heard.events) h.heard.events mid h.opens.items h.kept = kept.at_next in
     let same : h.kept.context ≡ context = kept.context ∙ contexts ∙ new.context_is in
     let rows : length last.table.rows ≡ length mid.table.rows = ap (λ s. length s.table.rows) last_is in
     let first_rows : length mid.table.rows ≡ length first.table.rows = ap (λ s. length s.table.rows) fixed in

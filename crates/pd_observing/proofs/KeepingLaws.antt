@@ -1,12 +1,16 @@
 -- An event begins and is over.
-use Rattle.std.proofs.Common.{◌≡◌, ℕ, ◌<◌, ◌≤◌, ◌+◌, ◌^◌, Bool, true, false, ◌&&◌, List, [], ◌∷◌, ◌++◌, length, refl, sym, ap, ◌∙◌, subst, ⊎_elim, arith}
-use Rattle.std.specs.Prelude.{nat_lt, nat_le, ◌==◌}
+use Rattle.std.proofs.Common.{◌≡◌, ℕ, ◌<◌, ◌≤◌, ◌+◌, ◌^◌, Bool, true, false, ◌&&◌, List, [], ◌∷◌, ◌++◌, length, map, refl, sym, ap, ◌∙◌, subst, ⊎_elim, arith}
+use Rattle.std.specs.Prelude.{nat_lt, nat_le, ◌==◌, drop, reverse}
 use Rattle.std.specs.List.{All, list_all, list_any}
 use Rattle.std.proofs.lemmas.Bool.{and_parts, and_from, cond-true, cond-false, ltb-true, leb-true, le-leb, lt-leb, ne_eqb, cases_lt}
-use Rattle.std.proofs.lemmas.List.{get_or_past}
+use Rattle.std.proofs.lemmas.List.{get_or_past, map_push, drop-map, reverse-append}
 use Rattle.std.proofs.lemmas.List.Elements.{All-weaker, All-push}
 use Rattle.pd_machine.specs.declared.event.Event.{Event}
+use Rattle.pd_machine.specs.declared.event.EventKind.{EventKind}
+use Rattle.pd_machine.specs.declared.event.EventKind.TheVariants.{Enter, Return, Leave}
 use Rattle.pd_machine.specs.Events.{Scene, Told}
+use Rattle.pd_order.specs.Order.{Fits, IsEndOf, open_after, open_with}
+use Rattle.pd_order.proofs.Lists.{open_push}
 use Rattle.pd_plan.specs.declared.table.MatchTable.{MatchTable}
 use Rattle.pd_board.specs.declared.answers.Known.{Known}
 use Rattle.pd_board.specs.declared.answers.Sight.{Sight}
@@ -71,6 +75,52 @@ rising_length low count (n ∷ ns) fits h k l =
     let from : low ≤ n = leb-true low n ks.0 in
     let rest : (n + 1) + length ns ≤ count = rising_length (n + 1) count ns (omega (arith, below)) hs.1 (above_next n ns hs.0) ls.1 in
     omega (arith, rest, from)
+
+-- ---- the open activations
+
+fits_end : (kind : EventKind) (e : Event) (live : List Event) → is_enter kind ≡ false → Fits kind e live → IsEndOf e live
+fits_end Enter e live h f = cc
+fits_end (Return a) e live h f = f
+fits_end (Leave c) e live h f = f
+
+pub fits_enter : (kind : EventKind) (e : Event) (live : List Event) → is_enter kind ≡ true → Fits kind e live → e.opened ≡ e.number
+fits_enter Enter e live h f = f
+fits_enter (Return a) e live h f = cc
+fits_enter (Leave c) e live h f = cc
+
+enter_opens : (kind : EventKind) (e : Event) (live : List Event) → is_enter kind ≡ true → open_with kind e live ≡ e ∷ live
+enter_opens Enter e live h = refl
+enter_opens (Return a) e live h = cc
+enter_opens (Leave c) e live h = cc
+
+end_closes : (kind : EventKind) (e : Event) (live : List Event) → is_enter kind ≡ false → open_with kind e live ≡ drop 1 live
+end_closes Enter e live h = cc
+end_closes (Return a) e live h = refl
+end_closes (Leave c) e live h = refl
+
+numbers_pushed : (opens : List Opened) (o : Opened) → reverse (map (λ x. x.event) (opens ++ o ∷ [])) ≡ o.event ∷ reverse (map (λ x. x.event) opens)
+numbers_pushed opens o = ap reverse (map_push (λ (x : Opened). x.event) opens o) ∙ reverse-append (map (λ x. x.event) opens) (o.event ∷ [])
+
+innermost : (e : Event) (live : List Event) (m : ℕ) (ms : List ℕ) → map (λ x. x.number) live ≡ m ∷ ms → IsEndOf e live → e.opened ≡ m
+innermost e [] m ms h f = absurd f
+innermost e (o ∷ live) m ms h f = let same : o.number ≡ m = cc in f.0 ∙ same
+
+-- an end closes the last of those that are kept
+pub end_is_last : (ts : List Told) (e : Event) (opens rest : List Opened) (o : Opened) → map (λ x. x.number) (open_after [] ts) ≡ reverse (map (λ x. x.event) opens)
+    → opens ≡ rest ++ o ∷ [] → is_enter e.kind ≡ false → Fits e.kind e (open_after [] ts) → e.opened ≡ o.event
+end_is_last ts e opens rest o same split end fits =
+    innermost e (open_after [] ts) o.event (reverse (map (λ x. x.event) rest)) (same ∙ ap (λ xs. reverse (map (λ x. x.event) xs)) split ∙ numbers_pushed rest o)
+    (fits_end e.kind e (open_after [] ts) end fits)
+
+none_open : (e : Event) (live : List Event) → map (λ x. x.number) live ≡ [] → IsEndOf e live → ⊥
+none_open e [] h f = f
+none_open e (o ∷ live) h f = cc
+
+-- there is one
+pub end_has_one : (ts : List Told) (e : Event) (opens : List Opened) → map (λ x. x.number) (open_after [] ts) ≡ reverse (map (λ x. x.event) opens)
+    → is_enter e.kind ≡ false → Fits e.kind e (open_after [] ts) → opens ≡ [] → ⊥
+end_has_one ts e opens same end fits none =
+    none_open e (open_after [] ts) (same ∙ ap (λ xs. reverse (map (λ x. x.event) xs)) none) (fits_end e.kind e (open_after [] ts) end fits)
 
 -- ---- an Enter begins
 
@@ -143,6 +193,10 @@ kept-enter start n ts e scene has rows s mid new opens o kept after k number ope
           (opened_later n (n + 1) s.sights new.sights opens (omega arith)
           (λ x h. spent.ons x (ap (λ m. m == x) number ∙ h) ∙ ap (λ ss. ons_at ss x) r.loaded.sights) k.opened)
           (record { before = omega (arith, event, number); on_is = met.on_is ∙ ap (λ m. ons_at new.sights m) (sym event) });
+      open_are = ap (map (λ x. x.number)) (open_push [] ts t ∙ enter_opens e.kind e (open_after [] ts) enter)
+          ∙ ap (λ ns. e.number ∷ ns) k.open_are
+          ∙ ap (λ m. m ∷ reverse (map (λ x. x.event) opens)) (sym event)
+          ∙ sym (numbers_pushed opens o);
       few = omega (arith, few);
       share = omega (arith, k.share, r.share, spent.share);
       cleared = omega (arith, k.cleared, r.cleared, spent.cleared);
@@ -194,11 +248,11 @@ parting-begins start n ts e scene rows s new opens o kept k number opened held e
 -- ---- an end is over
 
 pub kept-leave : (start : ℕ → Known) (n : ℕ) (ts : List Told) (e : Event) (scene : Scene) (rows : ℕ) (s mid new : Standing) (opens rest : List Opened) (o : Opened) (kept after : Deliveries)
-    → IsKeptAt start n ts s opens kept → e.number ≡ n → e.opened ≡ o.event → n < 2 ^ 25 → is_enter e.kind ≡ false → All (IsOpened s.sights n) rest → IsOpened s.sights n o
+    → IsKeptAt start n ts s opens kept → e.number ≡ n → e.opened ≡ o.event → n < 2 ^ 25 → is_enter e.kind ≡ false → opens ≡ rest ++ o ∷ [] → All (IsOpened s.sights n) rest → IsOpened s.sights n o
     → IsRoomedFor rows s mid → IsFit o.on mid kept → IsFit [] new after
     → IsUsed e.number (length o.on) mid new kept after → IsParting start ts (record { event = e; scene = scene }) [] new after
     → IsKeptAt start (n + 1) (ts ++ record { event = e; scene = scene } ∷ []) new rest after
-kept-leave start n ts e scene rows s mid new opens rest o kept after k number opened few end others held r fit over used part =
+kept-leave start n ts e scene rows s mid new opens rest o kept after k number opened few end split others held r fit over used part =
     let t : Told = record { event = e; scene = scene } in
     let table : new.table ≡ s.table = ap (λ x. x.table) used.fixed ∙ r.quiet.table in
     let same : length new.table.rows ≡ length s.table.rows = ap (λ x. length x.rows) table in
@@ -214,6 +268,9 @@ kept-leave start n ts e scene rows s mid new opens rest o kept after k number op
       bound = part.bound;
       opened = opened_later n (n + 1) s.sights new.sights rest (omega arith)
           (λ x h. used.ons x (ap (λ m. m == x) number ∙ h) ∙ ap (λ ss. ons_at ss x) r.quiet.sights) others;
+      open_are = ap (map (λ x. x.number)) (open_push [] ts t ∙ end_closes e.kind e (open_after [] ts) end)
+          ∙ sym (drop-map (λ (x : Event). x.number) 1 (open_after [] ts))
+          ∙ ap (drop 1) (k.open_are ∙ ap (λ xs. reverse (map (λ x. x.event) xs)) split ∙ numbers_pushed rest o);
       few = omega (arith, few);
       share = omega (arith, k.share, r.share, used.share, short, middle, k.rows);
       cleared = omega (arith, k.cleared, r.cleared, used.cleared);

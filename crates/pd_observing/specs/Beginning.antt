@@ -54,7 +54,6 @@ pub record IsKeptWith (ran : Ran) (h : Hearing) (r : ContextRecord) : Type 0 whe
   pub events : r.events ≡ ran.events
   pub logs : r.logs ≡ h.kept.logs.items
   pub seen : r.seen ≡ h.kept.seen.items
-  pub whole : h.whole ≡ true
 
 -- the context is over: it has ended, nothing is due, and the rest of the board is as before
 pub record IsOver (first last : Standing) : Type 0 where

@@ -1,12 +1,13 @@
 -- For the code's proofs: no public contract needs it.
 -- What stands between the events of a context.
-use Rattle.std.specs.Prelude.{◌≡◌, ℕ, ◌≤◌, ◌<◌, ◌+◌, ◌*◌, ◌^◌, Bool, true, false, nat_lt, List, [], length, slice_index_or, Some}
+use Rattle.std.specs.Prelude.{◌≡◌, ℕ, ◌≤◌, ◌<◌, ◌+◌, ◌*◌, ◌^◌, Bool, true, false, nat_lt, List, [], length, map, reverse, slice_index_or, Some}
 use Rattle.std.specs.List.{All, list_all}
 use Rattle.pd_machine.specs.Events.{Told}
 use Rattle.pd_board.specs.declared.answers.Known.{Known}
 use Rattle.pd_board.specs.declared.answers.Known.TheVariants.{Fresh}
 use Rattle.pd_board.specs.declared.answers.Sight.{Sight}
 use Rattle.pd_board.specs.Standing.{Standing, NothingDue}
+use Rattle.pd_order.specs.Order.{open_after}
 use Rattle.pd_observed.specs.Logs.{stands_in}
 use Rattle.pd_observed.specs.Serving.{IsCurrent, log_at, ons_at}
 use Rattle.pd_observed.specs.Step.{IsQuiet, IsLoaded}
@@ -53,6 +54,8 @@ pub record IsKeptAt (start : ℕ → Known) (n : ℕ) (ts : List Told) (s : Stan
   pub rows : length s.table.rows ≤ 4096
   pub bound : list_all (λ x. nat_lt x.binding (length s.table.rows)) s.sights ≡ true
   pub opened : All (IsOpened s.sights n) opens
+  -- they are those that are open, the outermost first
+  pub open_are : map (λ e. e.number) (open_after [] ts) ≡ reverse (map (λ o. o.event) opens)
   pub few : n ≤ 2 ^ 25
   -- each event takes at most one draw, and clears at most one bit, for each binding
   pub share : 2 ^ 38 ≤ s.draw_share + 4096 * n
@@ -64,14 +67,13 @@ pub record IsKeptAt (start : ℕ → Known) (n : ℕ) (ts : List Told) (s : Stan
 
 -- what is kept between events
 pub record IsKept (s : Standing) (h : Hearing) : Type 0 where
-  pub at_next : IsKeptAt (start_of h.start.items) h.next h.heard.events s h.opens.items h.kept
+  pub at_next : IsKeptAt (start_of h.start.items) (length h.heard.events) h.heard.events s h.opens.items h.kept
   pub context : h.kept.context ≡ h.context
 
 -- what is kept before the first event of a context with so many bindings
 pub record IsNew (context count : ℕ) (s : Standing) (h : Hearing) : Type 0 where
   pub context_is : h.context ≡ context
   pub same : h.kept.context ≡ context
-  pub next : h.next ≡ 0
   pub opens : h.opens.items ≡ []
   pub events : h.heard.events ≡ []
   pub seen : h.kept.seen.items ≡ []

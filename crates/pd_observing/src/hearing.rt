@@ -1,23 +1,21 @@
 //! What a context keeps between its events, and how it serves one.
-ghost use Rattle.std.specs.Prelude.{◌≡◌, ℕ, ◌<◌, ◌≤◌, ◌+◌, ◌^◌, ◌∷◌, ◌++◌, [], true, false, IfOk, OnOk, OnErr, IsTrue, ◌↔◌};
+ghost use Rattle.std.specs.Prelude.{◌≡◌, ℕ, ◌<◌, ◌≤◌, ◌+◌, ◌^◌, ◌∷◌, ◌++◌, [], true, false, length, IfOk, OnOk};
 ghost use Rattle.pd_machine.specs.Events.{Scene as Frames};
 ghost use Rattle.pd_board.specs.Standing.{NothingDue};
 ghost use Rattle.pd_board.specs.Chain.{has};
 ghost use Rattle.pd_observed.specs.Logs.{is_enter};
+ghost use Rattle.pd_order.specs.Order.{IsNext};
 ghost use Rattle.pd_observing.specs.Delivering.{fixed_of};
 ghost use Rattle.pd_observing.specs.Keeping.{IsRoomed, IsRoomedFor, IsKeptAt, IsKept, start_of};
 
 use crate::deliver::Deliveries;
-use crate::heard::Heard;
 use crate::meeting::meet_all;
 use crate::parting::part_all;
 use pd_board::{Board, Chain, Known};
+use pd_eval::Heard;
 use pd_machine::{Event, EventKind, Scene};
 use pd_values::{Items, NodeId};
 use std::alloc::{AllocError, Global};
-
-/// How many events a context may have: two, an Enter and an end, for each unit of the greatest fuel, 16,777,216.
-const MOST_EVENTS: u32 = 33_554_432;
 
 /// An activation that is open: the number of its Enter, and the bindings that this was given to, rising.
 #[derive(Drop)]
@@ -26,18 +24,15 @@ pub struct Opened {
     pub on: Items<u32>,
 }
 
-/// What a context keeps between its events: its number, the number of the next event, its open activations, the outermost first, and
-/// its deliveries; what its board knew of each binding at first; and, for clauses alone, what it was told.
+/// What a context keeps between its events: its number, its open activations, the outermost first, and its deliveries; what its
+/// board knew of each binding at first; and, for clauses alone, what it was told.
 #[derive(Drop)]
 pub struct Hearing {
     pub context: u32,
-    pub next: u32,
     pub opens: Vec<Opened>,
     pub kept: Deliveries,
     pub start: Vec<Known>,
     pub heard: Heard,
-    /// Whether the last event was served whole.
-    pub whole: bool,
 }
 
 /// Loads the words of a node, and makes room for so many draws.
@@ -73,47 +68,29 @@ fn make_room<B: Board>(alloc: Global, board: &mut B, rows: u32) -> Result<(), Al
     board.reserve(alloc, rows)
 }
 
-/// Serves the Enter of an activation. Events come in order, and their nodes are below `nodes`. An event that isn't so
-/// gives `AllocError`, as running out of memory does; no run has one.
+/// Serves the Enter of an activation.
 pub(crate) fn enter<B: Board>(
     alloc: Global,
     board: &mut B,
     h: &mut Hearing,
-    nodes: u32,
     event: &Event,
 ) -> Result<(), AllocError>
-    requires nodes { nodes ≡ (B.standing board.old).nodes }
-    requires kept { IsKeptAt (start_of h.old.start.items) h.old.next h.old.heard.events (B.standing board.old) h.old.opens.items h.old.kept }
+    requires kept { IsKeptAt (start_of h.old.start.items) (length h.old.heard.events) h.old.heard.events (B.standing board.old) h.old.opens.items h.old.kept }
+    requires next { IsNext h.old.heard.events event.now }
+    requires node { event.now.node < (B.standing board.old).nodes }
+    requires few { event.now.number < 2 ^ 25 }
     requires enter { is_enter event.now.kind ≡ true }
-    ensures kept { OnOk result ((scene : Frames) → IsKeptAt (start_of h.old.start.items) (h.old.next + 1) (h.old.heard.events ++ record { event = event.now; scene = scene } ∷ []) (B.standing board.new) h.new.opens.items h.new.kept) }
-    ensures few { OnOk result (h.old.next < 2 ^ 25) }
+    ensures kept { OnOk result ((scene : Frames) → IsKeptAt (start_of h.old.start.items) (length h.old.heard.events + 1) (h.old.heard.events ++ record { event = event.now; scene = scene } ∷ []) (B.standing board.new) h.new.opens.items h.new.kept) }
     ensures context { OnOk result (h.new.kept.context ≡ h.old.kept.context) }
     ensures rest { h.new ≡ record h.old { opens = h.new.opens; kept = h.new.kept } }
     ensures fixed { fixed_of (B.standing board.new) ≡ fixed_of (B.standing board.old) }
     ensures base { B.base board.new ≡ B.base board.old }
 {
-    if !begins(event, h.next) || !is_node(event.node, nodes) || h.next >= MOST_EVENTS {
-        return Err(AllocError);
-    }
     let chain = load(alloc, board, h.kept.logs.len() as u32, event.node)?;
     let mut on = Items::of(Vec::new(alloc));
     meet_all(board, &mut h.kept, event, &chain, &mut on)?;
     open(&mut h.opens, event.number, on)?;
     Ok(())
-}
-
-/// Whether an event is the Enter of this number.
-fn begins(event: &Event, number: u32) -> bool
-    ensures { IsTrue result ↔ ((event.now.number ≡ number) × (event.now.opened ≡ number)) }
-{
-    event.number == number && event.opened == number
-}
-
-/// Whether the node is below `nodes`.
-fn is_node(n: NodeId, nodes: u32) -> bool
-    ensures { IsTrue result ↔ (n < nodes) }
-{
-    n.0 < nodes
 }
 
 /// One more activation is open.
@@ -124,65 +101,54 @@ fn open(opens: &mut Vec<Opened>, event: u32, on: Items<u32>) -> Result<(), Alloc
     Ok(())
 }
 
-/// Serves the end of an activation, which is the innermost open one. Events come in order, and activations end in the
-/// order opposite to their Enters. An event that isn't so gives `AllocError`, as running out of memory does; no run has
-/// one.
+/// Serves the end of an activation, which is the innermost open one.
 pub(crate) fn leave<B: Board>(
     alloc: Global,
     board: &mut B,
     h: &mut Hearing,
     event: &Event,
 ) -> Result<(), AllocError>
-    requires kept { IsKeptAt (start_of h.old.start.items) h.old.next h.old.heard.events (B.standing board.old) h.old.opens.items h.old.kept }
+    requires kept { IsKeptAt (start_of h.old.start.items) (length h.old.heard.events) h.old.heard.events (B.standing board.old) h.old.opens.items h.old.kept }
+    requires next { IsNext h.old.heard.events event.now }
+    requires few { event.now.number < 2 ^ 25 }
     requires end { is_enter event.now.kind ≡ false }
-    ensures kept { OnOk result ((scene : Frames) → IsKeptAt (start_of h.old.start.items) (h.old.next + 1) (h.old.heard.events ++ record { event = event.now; scene = scene } ∷ []) (B.standing board.new) h.new.opens.items h.new.kept) }
-    ensures few { OnOk result (h.old.next < 2 ^ 25) }
+    ensures kept { OnOk result ((scene : Frames) → IsKeptAt (start_of h.old.start.items) (length h.old.heard.events + 1) (h.old.heard.events ++ record { event = event.now; scene = scene } ∷ []) (B.standing board.new) h.new.opens.items h.new.kept) }
     ensures context { OnOk result (h.new.kept.context ≡ h.old.kept.context) }
     ensures rest { h.new ≡ record h.old { opens = h.new.opens; kept = h.new.kept } }
     ensures fixed { fixed_of (B.standing board.new) ≡ fixed_of (B.standing board.old) }
     ensures base { B.base board.new ≡ B.base board.old }
 {
     let Some(opened) = h.opens.pop() else {
-        return Err(AllocError);
+        unreachable!();
     };
-    if event.number != h.next || event.opened != opened.event || h.next >= MOST_EVENTS {
-        return Err(AllocError);
-    }
     make_room(alloc, board, h.kept.logs.len() as u32)?;
     part_all(board, &mut h.kept, event, opened.on.as_slice())?;
     Ok(())
 }
 
-/// Serves an event: its bindings are drawn. After an error each further event gives an error too.
+/// Serves the next event: its bindings are drawn.
 pub(crate) fn hear<B: Board>(
     alloc: Global,
     board: &mut B,
     h: &mut Hearing,
-    nodes: u32,
     event: &Event,
     scene: &Scene<'_>,
 ) -> Result<(), AllocError>
-    requires nodes { nodes ≡ (B.standing board.old).nodes }
-    requires kept { h.old.whole ≡ true → IsKept (B.standing board.old) h.old }
-    ensures kept { h.new.whole ≡ true → IsKept (B.standing board.new) h.new }
-    ensures whole { OnOk result ((h.old.whole ≡ true) × (h.new.whole ≡ true)) }
-    ensures broken { OnErr result (h.new.whole ≡ false) }
+    requires kept { IsKept (B.standing board.old) h.old }
+    requires next { IsNext h.old.heard.events event.now }
+    requires node { event.now.node < (B.standing board.old).nodes }
+    requires few { event.now.number < 2 ^ 25 }
+    ensures kept { OnOk result (IsKept (B.standing board.new) h.new) }
     ensures told { OnOk result (h.new.heard.events ≡ h.old.heard.events ++ record { event = event.now; scene = scene.now } ∷ []) }
     ensures start { h.new.start ≡ h.old.start }
     ensures context { h.new.context ≡ h.old.context }
     ensures fixed { fixed_of (B.standing board.new) ≡ fixed_of (B.standing board.old) }
     ensures base { B.base board.new ≡ B.base board.old }
 {
-    if !h.whole {
-        return Err(AllocError);
-    }
-    h.whole = false;
     match event.kind {
-        EventKind::Enter => enter(alloc, board, h, nodes, event)?,
+        EventKind::Enter => enter(alloc, board, h, event)?,
         EventKind::Return(_) | EventKind::Leave(_) => leave(alloc, board, h, event)?,
     }
     h.heard = Heard::and(&h.heard, event, scene);
-    h.next += 1;
-    h.whole = true;
     Ok(())
 }

@@ -2,12 +2,10 @@
 #![tactic(auto)]
 
 mod deliver;
-mod heard;
 mod hearing;
 mod meeting;
 mod parting;
 mod record;
 mod watch;
 
-pub use heard::Heard;
 pub use record::run_context;

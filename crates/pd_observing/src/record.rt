@@ -1,5 +1,5 @@
 //! The record of a context.
-ghost use Rattle.std.specs.Prelude.{◌≡◌, ℕ, ◌<◌, ◌≤◌, ◌^◌, true, length, slice_index, IfOk};
+ghost use Rattle.std.specs.Prelude.{◌≡◌, ℕ, ◌<◌, ◌≤◌, ◌^◌, length, slice_index, IfOk};
 ghost use Rattle.pd_board.specs.Standing.{bindings};
 ghost use Rattle.pd_meaning.specs.Meaning.{meaning_of};
 ghost use Rattle.pd_eval.specs.Watching.{IsRan};
@@ -8,11 +8,10 @@ ghost use Rattle.pd_observing.specs.Keeping.{IsNew, IsKept};
 ghost use Rattle.pd_observing.specs.Beginning.{fuel_at, IsReadyFor, IsKeptWith, IsOver};
 
 use crate::deliver::Deliveries;
-use crate::heard::Heard;
 use crate::hearing::Hearing;
 use crate::watch::Guest;
 use pd_board::Board;
-use pd_eval::Ran;
+use pd_eval::{Heard, Ran};
 use pd_observed::ContextRecord;
 use pd_outside::Gate;
 use pd_plan::Plan;
@@ -44,7 +43,6 @@ pub fn run_context<B: Board, G: Gate>(
         board,
         gate,
         alloc,
-        nodes: program.nodes(),
         h,
     };
     let entry = program.entry(context);
@@ -53,12 +51,10 @@ pub fn run_context<B: Board, G: Gate>(
         board: last,
         gate: _,
         alloc: _,
-        nodes: _,
         h,
     } = guest;
     last.ended();
-    let record = record(ran?, h)?;
-    Ok(record)
+    Ok(record(ran?, h))
 }
 
 /// The fuel of a context; 0 for one that the plan doesn't have.
@@ -79,8 +75,7 @@ fn begin<B: Board>(
     count: u32,
 ) -> Result<Hearing, AllocError>
     requires { count ≡ bindings (B.standing board.now) }
-    ensures new { IfOk result (IsNew context count (B.standing board.now)) }
-    ensures whole { IfOk result (λ h. h.whole ≡ true) }
+    ensures { IfOk result (IsNew context count (B.standing board.now)) }
 {
     let mut logs = Vec::new(alloc);
     let mut start = Vec::new(alloc);
@@ -90,7 +85,6 @@ fn begin<B: Board>(
     }
     Ok(Hearing {
         context,
-        next: 0,
         opens: Vec::new(alloc),
         kept: Deliveries {
             context,
@@ -99,24 +93,20 @@ fn begin<B: Board>(
         },
         start,
         heard: Heard::nothing(),
-        whole: true,
     })
 }
 
 /// The record of what was run and kept.
-fn record(ran: Ran, h: Hearing) -> Result<ContextRecord, AllocError>
-    ensures { IfOk result (IsKeptWith ran h) }
+fn record(ran: Ran, h: Hearing) -> ContextRecord
+    ensures { IsKeptWith ran h result }
 {
-    let Hearing { kept, whole, .. } = h;
-    if !whole {
-        return Err(AllocError);
-    }
-    Ok(ContextRecord {
+    let Hearing { kept, .. } = h;
+    ContextRecord {
         output: ran.output,
         end: ran.end,
         used: ran.used,
         events: ran.events,
         logs: Items::of(kept.logs),
         seen: Items::of(kept.seen),
-    })
+    }
 }

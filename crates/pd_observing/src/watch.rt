@@ -1,5 +1,5 @@
 //! The watcher that serves the events of a run.
-ghost use Rattle.std.specs.Prelude.{◌≡◌, ℕ, true, List, []};
+ghost use Rattle.std.specs.Prelude.{ℕ, List, []};
 ghost use Rattle.pd_board.specs.declared.answers.Known.{Known as Knowledge};
 ghost use Rattle.pd_board.specs.Standing.{Standing};
 ghost use Rattle.pd_observing.specs.Delivering.{fixed_of};
@@ -17,10 +17,7 @@ pub(crate) struct Guest<'a, 'g, B: Board, G: Gate> {
     pub board: &'a mut B,
     pub gate: &'g G,
     pub alloc: Global,
-    pub nodes: u32,
     pub h: Hearing,
-    ghost nodes_are: { nodes ≡ (B.standing board.now).nodes },
-    ghost kept: { h.whole ≡ true → IsKept (B.standing board.now) h },
 }
 
 impl<B: Board, G: Gate> Watcher for Guest<'_, '_, B, G> {
@@ -32,16 +29,13 @@ impl<B: Board, G: Gate> Watcher for Guest<'_, '_, B, G> {
 
     ghost fixed = { λ w. (w.board.ghost_name, fixed_of (B.standing w.board.now), w.h.start.items, w.h.context, B.base w.board.now) };
 
+    ghost nodes = { λ f. f.1.nodes };
+
+    ghost ready = { λ w. IsKept (B.standing w.board.now) w.h };
+
     fn event(&mut self, event: &Event, scene: &Scene<'_>) -> Result<Verdict, AllocError> {
         self.gate.at(self.h.kept.context, event.number);
-        hear(
-            self.alloc,
-            self.board,
-            &mut self.h,
-            self.nodes,
-            event,
-            scene,
-        )?;
+        hear(self.alloc, self.board, &mut self.h, event, scene)?;
         Ok(Verdict::Go)
     }
 }

@@ -1,13 +1,13 @@
 //! A watcher that writes down all that it is told, and answers as it was asked to.
-ghost use Rattle.std.specs.Prelude.{◌≡◌, []};
+ghost use Rattle.std.specs.Prelude.{◌≡◌, ◌<◌, [], length};
+ghost use Rattle.std.specs.List.{All};
 ghost use Rattle.pd_tree.specs.Program.{Program as Linked};
 ghost use Rattle.pd_eval.specs.Watching.{GivesNoFunction};
 ghost use Rattle.run_cases.specs.Answering as answering;
 ghost use Rattle.run_cases.specs.Answering.{kept_from};
 
 use crate::case::{Answer, Asked, Case};
-use pd_eval::Watcher;
-use pd_observing::Heard;
+use pd_eval::{Heard, Watcher};
 use pd_machine::{Cause, Event, EventKind, Scene, Verdict};
 use pd_tree::Program;
 use pd_values::{NodeId, Value};
@@ -26,7 +26,8 @@ pub struct Recorder<'a> {
 impl<'a> Recorder<'a> {
     /// No event was told.
     pub fn new(alloc: Global, program: &'a Program, case: &'a Case) -> Recorder<'a>
-        ensures { result.heard.events ≡ [] }
+        ensures events { result.heard.events ≡ [] }
+        ensures program { result.program.now ≡ program.now }
     {
         Recorder {
             program,
@@ -50,6 +51,10 @@ impl Watcher for Recorder<'_> {
     ghost Fixed = { Linked };
 
     ghost fixed = { λ r. r.program.now };
+
+    ghost nodes = { λ p. length p.nodes };
+
+    ghost ready = { λ _. Unit };
 
     #[tactic(auto, using(crate::proofs::Kept::kept_one_more))]
     fn event(&mut self, event: &Event, scene: &Scene<'_>) -> Result<Verdict, AllocError> {
@@ -133,7 +138,10 @@ pub fn write_value(text: &mut String, value: &Value) -> Result<(), AllocError> {
 }
 
 /// Writes the frames from the innermost outward: the name of the root, the node, and each variable that is seen there.
-fn write_frames(text: &mut String, program: &Program, scene: &Scene<'_>) -> Result<(), AllocError> {
+#[tactic(auto, using(pd_order::proofs::Frames::root_below, pd_order::proofs::Frames::place_below))]
+fn write_frames(text: &mut String, program: &Program, scene: &Scene<'_>) -> Result<(), AllocError>
+    requires { All (λ f. (f.root < length program.now.nodes) × (f.at < length program.now.nodes)) scene.now.frames }
+{
     for i in 0..scene.frames() {
         write_frame(text, program, scene, i, scene.root(i), scene.at(i))?;
     }
@@ -148,11 +156,10 @@ fn write_frame(
     i: u32,
     root: NodeId,
     at: NodeId,
-) -> Result<(), AllocError> {
-    if root.0 >= program.nodes() || at.0 >= program.nodes() {
-        write!(text, " | ?")?;
-        return Ok(());
-    }
+) -> Result<(), AllocError>
+    requires root { root < length program.now.nodes }
+    requires at { at < length program.now.nodes }
+{
     write!(text, " | {}@{}", program.root_name(root).as_str(), at.0)?;
     let variables = program.sees(*text.allocator(), at)?;
     for seen in variables.as_slice() {

@@ -1,6 +1,8 @@
 -- The machine and its watcher stand for a point of the meaning, from the start to the end.
 use Rattle.std.proofs.Common.{[], refl, sym, ap, ◌∙◌, subst, arith}
-use Rattle.pd_eval.specs.Watching.{Stands}
+use Rattle.pd_meaning.specs.Steps.{with_events}
+use Rattle.pd_eval.specs.Watching.{IsOrderlyIn, Stands}
+use Rattle.pd_eval.proofs.Ordering.{orderly_at_first}
 use Rattle.pd_eval.proofs.Standing.{ran_is, stands_at_first}
 use Rattle.pd_eval.proofs.running.run_from.Goals as goal
 
@@ -11,6 +13,10 @@ turns-init g c =
           subst (λ es. Stands p c.args.fuel c.args.root es (g.W.Watcher.kept c.args.w.now) c.in_ok-m.m) (sym c.requires.no_events)
           (subst (λ ks. Stands p c.args.fuel c.args.root [] ks c.in_ok-m.m) (sym c.requires.no_verdicts)
           (stands_at_first p c.args.fuel c.args.root c.in_ok-m.m c.in_ok-m.ensures.begun c.in_ok-m.ensures.told c.in_ok-m.ensures.fuel));
+      orderly =
+          subst (λ es. IsOrderlyIn p (with_events c.in_ok-m.m es)) (sym c.requires.no_events)
+          (orderly_at_first p c.args.fuel c.args.root c.in_ok-m.m c.requires.linked c.requires.fuel c.requires.root c.in_ok-m.ensures.begun);
+      ready = c.requires.ready;
       fixed = refl;
     }
 
@@ -18,11 +24,19 @@ pub step-requires-clause-room : goal.step-requires-clause-room
 step-requires-clause-room g c = omega (arith, c.turns.invariant.stands.bound, c.requires.fuel)
 
 pub turns-smaller : goal.turns-smaller
-turns-smaller g c = c.in_ok-step.ensures.lowers (c.turns.invariant.stands.count, c.turns.invariant.stands.below)
+turns-smaller g c = c.in_ok-step.ensures.lowers
+
+pub step-requires-clause-nodes : goal.step-requires-clause-nodes
+step-requires-clause-nodes g c = ap g.W.Watcher.nodes c.turns.invariant.fixed ∙ c.requires.nodes
+
+pub step-requires-clause-counted : goal.step-requires-clause-counted
+step-requires-clause-counted g c = (c.turns.invariant.stands.count, c.turns.invariant.stands.below)
 
 pub turns-preserved : goal.turns-preserved
 turns-preserved g c = record {
   stands = c.in_ok-step.ensures.stands c.args.fuel c.args.root c.turns.invariant.stands;
+  orderly = c.in_ok-step.ensures.orderly;
+  ready = c.in_ok-step.ensures.ready;
   fixed = c.in_ok-step.ensures.fixed ∙ c.turns.invariant.fixed;
 }
 

@@ -20,13 +20,13 @@ returns-clause-record g c =
     let ran : IsRan c.in_ok-ran.field-0 h.heard.events (meaning_of p entry fuel []) =
     subst (λ x. IsRan c.in_ok-ran.field-0 h.heard.events (meaning_of p x fuel [])) c.entry-entry.ensures
     (subst (λ x. IsRan c.in_ok-ran.field-0 h.heard.events (meaning_of p c.entry-entry.result x [])) c.fuel.ensures c.in_ok-ran.ensures.ran) in
-    record-of p entry fuel c.args.context (length c.as_slice.result.now) first mid _ c.in_ok-h.h h c.in_ok-ran.field-0 c.in_ok-record.record
+    record-of p entry fuel c.args.context (length c.as_slice.result.now) first mid _ c.in_ok-h.h h c.in_ok-ran.field-0 c.record.result
     (ap length c.as_slice.ensures ∙ sym (rows_of c.args.plan.now p first c.requires.board.table))
-    c.in_ok-h.ensures.new
-    (c.run-ran.new.w.kept c.in_ok-record.ensures.whole)
+    c.in_ok-h.ensures
+    c.in_ok-ran.ensures.ready
     (ap (λ x. x.2) c.in_ok-ran.ensures.fixed)
     (ap (λ x. x.3) c.in_ok-ran.ensures.fixed)
     (ap (λ x. x.1) c.in_ok-ran.ensures.fixed)
     (search rules)
     ran
-    c.in_ok-record.ensures
+    c.record.ensures

@@ -21,11 +21,11 @@ use denote.Triple.Entry.{on_entry, alive}
 use denote.Triple.Spec.{Meets, triple_of}
 use denote.Triple.Table.{entered}
 use denote.Triple.Walked.{says, Stays, walk_of, Walks, ends_at, walked, walk_Meets}
-use Rattle.pd_observing.specs.contracts.heard.Heard.nothing.Key.{name as key}
-use Rattle.pd_observing.specs.contracts.heard.Heard.nothing as f
-use Rattle.pd_observing.proofs.heard.Heard.nothing.Statement as stated
-use Rattle.pd_observing.proofs.heard.Heard.nothing.Code as code
-use Rattle.pd_observing.specs.contracts.heard.Heard as made
+use Rattle.pd_eval.specs.contracts.heard.Heard.nothing.Key.{name as key}
+use Rattle.pd_eval.specs.contracts.heard.Heard.nothing as f
+use Rattle.pd_eval.proofs.heard.Heard.nothing.Statement as stated
+use Rattle.pd_eval.proofs.heard.Heard.nothing.Code as code
+use Rattle.pd_eval.specs.contracts.heard.Heard as made
 
 abbrev stayed : Stays (f.ended).signature.params (f.ended).kept
 stayed = tt

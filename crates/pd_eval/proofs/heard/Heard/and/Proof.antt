@@ -27,12 +27,12 @@ use denote.Triple.Table.{entered}
 use denote.Triple.Walked.{says, stay_none_ref, Stays, Walks, ends_at, walked, Goes-none_ref, walk_Meets}
 use Rattle.pd_machine.specs.contracts.event.Event as event
 use Rattle.pd_machine.specs.contracts.scene.Scene as scene
-use Rattle.pd_observing.specs.declared.heard.Heard.{Heard}
-use Rattle.pd_observing.specs.contracts.heard.Heard as heard
-use Rattle.pd_observing.specs.contracts.heard.Heard.and.Key.{name as key}
-use Rattle.pd_observing.specs.contracts.heard.Heard.and as f
-use Rattle.pd_observing.proofs.heard.Heard.and.Statement as stated
-use Rattle.pd_observing.proofs.heard.Heard.and.Code as code
+use Rattle.pd_eval.specs.declared.heard.Heard.{Heard}
+use Rattle.pd_eval.specs.contracts.heard.Heard as heard
+use Rattle.pd_eval.specs.contracts.heard.Heard.and.Key.{name as key}
+use Rattle.pd_eval.specs.contracts.heard.Heard.and as f
+use Rattle.pd_eval.proofs.heard.Heard.and.Statement as stated
+use Rattle.pd_eval.proofs.heard.Heard.and.Code as code
 
 abbrev stayed : Stays (f.ended).signature.params (f.ended).kept
 stayed = (
