@@ -2,9 +2,13 @@
 #![tactic(auto)]
 
 #[cfg(test)]
+mod breaks;
+#[cfg(test)]
 mod core_words;
 #[cfg(test)]
 mod fixtures;
+#[cfg(test)]
+mod index;
 #[cfg(test)]
 mod link;
 #[cfg(test)]

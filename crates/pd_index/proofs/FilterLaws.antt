@@ -18,7 +18,7 @@ use Rattle.pd_index.specs.Indexing.{bears, tagged, stands_on, on_line}
 use Rattle.pd_index.specs.Among.{RisesFrom, IsAmong}
 use Rattle.pd_index.specs.Kept.{HasTags, HasLines, IsIndexOf, list_of, between, on_range, of_source, sources_from, sources_of}
 use Rattle.pd_index.proofs.ListLaws.{either, filter_yes, filter_no, any_here, any_later, any_rest, all_each, all-filter, contains_from_any, any_from_contains}
-use Rattle.pd_index.proofs.LinesLaws.{stands_from, any_same}
+use Rattle.pd_index.proofs.LinesLaws.{tagged_from, stands_from, any_same}
 use Rattle.pd_index.proofs.StopLaws.{tagged_by, all_any, any-filter, any_in_range, all_in_range}
 
 -- ---- lists
@@ -179,19 +179,15 @@ in_range_to line range h = grind (arith, nat_tests)
 eq_to : (a b : ℕ) → (a == b) ≡ true → b ≡ a
 eq_to a b h = grind (arith, nat_tests)
 
-tagged_not : (b : Bool) → b ≡ false → not b ≡ true
-tagged_not true h = sym h
-tagged_not false h = refl
-
 source_whole : (p : Program) (lines : Lines) → HasLines p lines → (ranges : List LineRange) (n : ℕ) → n < length p.nodes → is_empty (node_at p n).tags ≡ false → one_of ranges (is_in (node_at p n).line) ≡ true
     → (s : ℕ) → (s == (node_at p n).source) ≡ true → list_any (λ m. m == n) (of_source lines ranges s) ≡ true
 source_whole p lines has [] n below marked wants s at =
-    has.whole s 0 (2 ^ 32 - 1) n below (stands_from p s 0 (2 ^ 32 - 1) n (tagged_not (is_empty (node_at p n).tags) marked) (eq_to s (node_at p n).source at) (omega arith) (omega (arith, has.fit n below)))
+    has.whole s 0 (2 ^ 32 - 1) n below (stands_from p s 0 (2 ^ 32 - 1) n (tagged_from (is_empty (node_at p n).tags) marked) (eq_to s (node_at p n).source at) (omega arith) (omega (arith, has.fit n below)))
 source_whole p lines has (r ∷ rs) n below marked wants s at =
     any-flat_map (is_in (node_at p n).line) (on_range lines s) n
     (λ range in_it.
     let to = in_range_to (node_at p n).line range in_it in
-    has.whole s range.from range.to n below (stands_from p s range.from range.to n (tagged_not (is_empty (node_at p n).tags) marked) (eq_to s (node_at p n).source at) to.0 to.1))
+    has.whole s range.from range.to n below (stands_from p s range.from range.to n (tagged_from (is_empty (node_at p n).tags) marked) (eq_to s (node_at p n).source at) to.0 to.1))
     (r ∷ rs) wants
 
 sourced : (named all : List ℕ) (source : ℕ) → one_of named (λ s. s == source) ≡ true → list_any (λ s. s == source) all ≡ true → list_any (λ s. s == source) (sources_from named all) ≡ true

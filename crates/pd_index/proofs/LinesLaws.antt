@@ -184,7 +184,7 @@ on_to_within p s l n on = grind (arith, nat_tests)
 within_to_on : (p : Program) (s l n : ℕ) → stands_within p s l l n ≡ true → stands_on p s l n ≡ true
 within_to_on p s l n within = grind (arith, nat_tests)
 
-tagged_from : (b : Bool) → b ≡ false → not b ≡ true
+pub tagged_from : (b : Bool) → b ≡ false → not b ≡ true
 tagged_from true h = sym h
 tagged_from false h = refl
 
@@ -195,9 +195,6 @@ module _ (p : Program) (lines : Lines)
     (fit : (n : ℕ) → n < length p.nodes → (node_at p n).line < 2 ^ 32)
     (moved : IsPermutation (map (place_of p) (filter (is_tagged p) (all_nodes p))) lines.places.items)
     (sources_are : lines.sources.items ≡ dedup nat_eq (map source_of lines.places.items)) where
-  xs : List Place
-  xs = lines.places.items
-
   are : AllByRecursion (IsPlace p) lines.places.items
   are = recursion_from_All (IsPlace p) lines.places.items (All-permutation (IsPlace p) (places_from p 0 (length p.nodes)) lines.places.items moved (All-from_recursion (IsPlace p) (places_from p 0 (length p.nodes)) (all_are p 0 (length p.nodes) (omega arith))))
 
