@@ -3,7 +3,6 @@ use Rattle.std.proofs.Common.{◌≡◌, ℕ, zero, suc, ◌<◌, ◌+◌, Bool,
 use Rattle.std.specs.Prelude.{nat_lt, if◌then◌else◌, slice_get}
 use Rattle.std.specs.List.{AllByRecursion, list_all}
 use Rattle.std.proofs.lemmas.Bool.{and_from, cases_Bool, lt-ltb}
-use Rattle.std.proofs.lemmas.Grind.{not_there}
 use Rattle.std.proofs.lemmas.List.{get_or_past}
 use Rattle.pd_tree.specs.Program.{Program}
 use Rattle.pd_machine.specs.Events.{Told}
@@ -48,30 +47,24 @@ all_below : (bs : List BindingSpec) (n : ℕ) → n ≡ length bs → (xs : List
 all_below bs n e [] h = refl
 all_below bs n e (x ∷ xs) h = let low = below_by bs x h.0 in and_from _ _ (lt-ltb (binding_of x) n (omega (arith, low, e))) (all_below bs n e xs h.1)
 
-pub lawful-bindings : (plan : Plan) (a : Answer) (n : ℕ) → n ≡ length plan.bindings → ∥ IsLawful plan a ∥₁ → list_all (λ (x : Act). nat_lt (binding_of x) n) a.first ≡ true
-lawful-bindings plan a n e t = elim (cases_Bool (list_all (λ (x : Act). nat_lt (binding_of x) n) a.first)) [
-  | inl is ↦ is
-  | inr not ↦ absurd (not_there t (λ law. false_true (sym not ∙ all_below plan.bindings n e a.first law.acts)))
-]
-  where
-    false_true : false ≡ true → ⊥
-    false_true e = cc
+pub lawful-bindings : (plan : Plan) (a : Answer) (n : ℕ) → n ≡ length plan.bindings → IsLawful plan a → list_all (λ (x : Act). nat_lt (binding_of x) n) a.first ≡ true
+lawful-bindings plan a n e law = all_below plan.bindings n e a.first law.acts
 
-no_function : (r : Resume) (plan : Plan) (first : List Act) → ∥ IsLawful plan (record { first = first; resume = r }) ∥₁ → HasNoFunction r
-no_function resumes.Continue plan first t = tt
-no_function (resumes.Into n) plan first t = tt
-no_function (resumes.Over n) plan first t = tt
-no_function (resumes.Out n) plan first t = tt
-no_function (resumes.Reenter k) plan first t = tt
-no_function (resumes.Return k (values.Number z)) plan first t = tt
-no_function (resumes.Return k (values.Bool b)) plan first t = tt
-no_function (resumes.Return k (values.Text b)) plan first t = tt
-no_function (resumes.Return k values.Null) plan first t = tt
-no_function (resumes.Return k (values.Func i)) plan first t = not_there t (λ law. law.resume.1)
-no_function resumes.Kill plan first t = tt
+no_function : (r : Resume) → ResumeFits r → HasNoFunction r
+no_function resumes.Continue h = tt
+no_function (resumes.Into n) h = tt
+no_function (resumes.Over n) h = tt
+no_function (resumes.Out n) h = tt
+no_function (resumes.Reenter k) h = tt
+no_function (resumes.Return k (values.Number z)) h = tt
+no_function (resumes.Return k (values.Bool b)) h = tt
+no_function (resumes.Return k (values.Text b)) h = tt
+no_function (resumes.Return k values.Null) h = tt
+no_function (resumes.Return k (values.Func i)) h = h.1
+no_function resumes.Kill h = tt
 
-pub lawful-value : (plan : Plan) (a : Answer) → ∥ IsLawful plan a ∥₁ → HasNoFunction a.resume
-lawful-value plan a t = no_function a.resume plan a.first t
+pub lawful-value : (plan : Plan) (a : Answer) → IsLawful plan a → HasNoFunction a.resume
+lawful-value plan a law = no_function a.resume law.resume
 
 -- ---- what is kept
 

@@ -6,10 +6,7 @@ use Rattle.std.specs.Option.{option_map}
 use Rattle.std.proofs.lemmas.Bool.{and_parts, and_from, cases_Bool, cond-true, cond-false, ltb-true, lt-ltb, eqb-true, eqb-false, eq-eqb, ne_eqb, cases_lt}
 use Rattle.std.proofs.lemmas.List.{append-nil, append_assoc, map-append, length-append, get_or_default}
 use Rattle.std.proofs.lemmas.List.Elements.{recursion_from_All, filter-append, filter_map-append}
-use Rattle.std.proofs.lemmas.Grind.{not_there}
-use Rattle.std.proofs.Math.Logic.{∥∥₁_elim}
 use Rattle.std.proofs.Math.Seq.{take-append_seam, take-length}
-use mathlib.Core.Logic.{∥∥₁_prop}
 use Rattle.pd_tree.specs.Program.{Program}
 use Rattle.pd_machine.specs.Events.{Told}
 use Rattle.pd_machine.specs.declared.event.Verdict.{Verdict}
@@ -55,7 +52,7 @@ use Rattle.pd_guest.specs.Moment.{At}
 use Rattle.pd_guest.specs.Delivering.{steady_of}
 use Rattle.pd_guest.specs.Growing.{IsMore}
 use Rattle.pd_guest.specs.Keeping.{IsKeptAt, start_of}
-use Rattle.pd_guest.specs.Replying.{HasGrown}
+use Rattle.pd_record.specs.Replies.{owed_of, HasGrownBy}
 use Rattle.pd_guest.specs.Asking.{IsStepped, IsKept, IsAsking, IsAsked, IsPlaceOf, is_go, left_of, stepper_at, verdict_by}
 use Rattle.pd_guest.proofs.ReplyLaws.{grown-served, grown-asked, acts-push}
 
@@ -203,9 +200,8 @@ asking-begins m old new h after k same kept few number more context steady =
       shares = λ x lt. omega (arith, shares x, k.shares x (omega (arith, lt, sessions)));
       numbers = λ x. ap (λ s. s.numbers x) steady ∙ k.numbers x;
       rising = k.rising;
-      replied = ∥∥₁_elim k.replied ∥∥₁_prop (λ g.
-          ∣ grown-served m.plan h.start.replies (length h.history.events) old new h.stops.items h.history.events m.told number (numbers_below (length h.history.events) h.history.events k.at_next.current.below) before k.at_next.current.acts_below
-          (subst (λ e. IsMore m.plan e old new) number more) g ∣₁);
+      replied = grown-served m.plan h.start.replies (length h.history.events) old new h.stops.items h.history.events m.told number (numbers_below (length h.history.events) h.history.events k.at_next.current.below) before k.at_next.current.acts_below
+          (subst (λ e. IsMore m.plan e old new) number more) k.replied;
     })
   where
     sub_zero : (k : ℕ) → k ≡ k - 0
@@ -242,7 +238,7 @@ kept-over m first goes s h after i same events =
       shares = λ x lt. omega (arith, i.shares x lt, next);
       numbers = i.numbers;
       rising = i.rising;
-      replied = subst (λ us. ∥ HasGrown m.plan h.start.replies s.replies s.sights h.stops.items us ∥₁) (sym events) i.replied;
+      replied = subst (λ us. HasGrownBy (owed_of m.plan s.sights h.stops.items us) h.start.replies s.replies) (sym events) i.replied;
     })
   where
     suc_is : (k : ℕ) → suc k ≡ k + 1
@@ -458,11 +454,10 @@ module _ (m : At) (first i : ℕ) (s new : Standing) (h after : Progress) (x : S
         shares = λ y lt. asked_share a.share y (omega (arith, lt, sessions));
         numbers = λ y. subst (λ z. new.numbers y ≡ numbers_in y z) (sym a.stops) (asked_numbers own a.numbers a.others y);
         rising = λ y. subst (λ z. rises (numbers_in y z) ≡ true) (sym a.stops) (asked_rising own a.above y);
-        replied = ∥∥₁_elim k.replied ∥∥₁_prop (λ g.
-            ∣ subst (λ z. HasGrown m.plan h.start.replies new.replies new.sights z (ts ++ m.told ∷ [])) (sym a.stops)
-            (subst (λ ss. HasGrown m.plan h.start.replies new.replies ss (h.stops.items ++ x ∷ []) (ts ++ m.told ∷ [])) (sym sights)
+        replied = subst (λ z. HasGrownBy (owed_of m.plan new.sights z (ts ++ m.told ∷ [])) h.start.replies new.replies) (sym a.stops)
+            (subst (λ ss. HasGrownBy (owed_of m.plan ss (h.stops.items ++ x ∷ []) (ts ++ m.told ∷ [])) h.start.replies new.replies) (sym sights)
             (grown-asked m.plan h.start.replies s.replies new.replies s.sights h.stops.items x ts m.told (k.number ∙ sym event)
-            (subst (λ e. list_all (λ (u : Told). nat_lt u.event.number e) ts ≡ true) (sym event) k.past) a.replies g)) ∣₁);
+            (subst (λ e. list_all (λ (u : Told). nat_lt u.event.number e) ts ≡ true) (sym event) k.past) a.replies k.replied));
       })
 
 -- ---- what the code reads

@@ -30,14 +30,15 @@ use Rattle.pd_record.specs.Seen.{in_order, IsSeen, is_subject_at, enters_to, is_
 use Rattle.pd_record.specs.Served.{IsServed}
 use Rattle.pd_record.specs.Serving.{IsCurrent, log_at}
 use Rattle.pd_record.specs.Stopping.{IsStoppedTo}
-use Rattle.pd_record.specs.Record.{IsObserved, IsRunOf, IsStopped, IsRecord, setting_of}
+use Rattle.pd_record.specs.Record.{IsObserved, IsRunOf, IsStopped, IsRecord, IsReplied, setting_of}
 use Rattle.pd_record.proofs.ActsLaws.{in_order_none}
 use Rattle.pd_record.proofs.StoppingLaws.{stopped-none, stopped-all}
 use Rattle.pd_guest.specs.declared.serving.Opened.{Opened}
 use Rattle.pd_guest.specs.declared.serving.Progress.{Progress}
 use Rattle.pd_guest.specs.Keeping.{IsOpened, IsKeptAt, IsNew, start_of}
-use Rattle.pd_guest.specs.Replying.{HasGrown, AreRepliesTo, dues_of, answer_of, kept_by}
-use Rattle.pd_guest.specs.Asking.{IsKept, IsGiven, IsStepped, stepper_at}
+use Rattle.pd_record.specs.Replies.{owed_of, AreFor, HasGrownBy}
+use Rattle.pd_guest.specs.Replying.{answer_of, kept_by, IsGiven}
+use Rattle.pd_guest.specs.Asking.{IsKept, IsStepped, stepper_at}
 use Rattle.pd_guest.specs.Beginning.{IsReadyFor, IsKeptWith}
 use Rattle.pd_guest.proofs.OfferingLaws.{no_acts}
 use Rattle.pd_guest.proofs.AskingLaws.{stepped-idle}
@@ -150,17 +151,17 @@ begins-kept plan p context first s h r n = record {
   shares = λ x lt. omega (arith, r.answers x lt);
   numbers = λ x. r.numbers x ∙ sym (ap (numbers_in x) n.stops);
   rising = λ x. ap (λ stops. rises (numbers_in x stops)) n.stops;
-  replied = ∣ record {
-    more = [];
-    after_is = sym n.replies ∙ sym (append-nil h.start.replies);
-    replies = subst (λ ts. AreRepliesTo (dues_of plan s.sights h.stops.items ts) []) (sym n.events) tt;
-  } ∣₁;
+  replied = record {
+    grown = [];
+    replies = sym n.replies ∙ sym (append-nil h.start.replies);
+    each = subst (λ ts. AreFor (owed_of plan s.sights h.stops.items ts) []) (sym n.events) tt;
+  };
 }
 
 pub begins-given : (admits : Suspension → Answer → Type 0) (keeps : ℕ → Bool) (context bindings sessions : ℕ) (first : List (Suspension × Answer)) (s : Standing) (h : Progress)
     → IsNew context bindings sessions s first h → IsGiven admits keeps h.first.list first h.stops.items
 begins-given admits keeps context bindings sessions first s h n = record {
-  admitted = subst (λ stops. All (λ x. ∥ admits (as_handed x) (answer_of x) ∥₁) stops) (sym n.stops) (All-nil (λ x. ∥ admits (as_handed x) (answer_of x) ∥₁));
+  admitted = subst (λ stops. All (λ x. admits (as_handed x) (answer_of x)) stops) (sym n.stops) (All-nil (λ x. admits (as_handed x) (answer_of x)));
   kept = sym n.first_is ∙ sym (append-nil h.first.list) ∙ ap (λ stops. h.first.list ++ kept_by keeps stops) (sym n.stops);
 }
 
@@ -228,14 +229,12 @@ module _ (plan : Plan) (p : Program) (context entry fuel : ℕ) (first mid last 
     stopped = subst (λ events. IsStopped plan p context first last events r) means stopped_last;
   }
 
-  pub grown-of : h.start.replies ≡ before.start.replies → ∥ HasGrown plan first.replies last.replies r.seen r.stops (meaning_of p entry fuel (verdicts_of r.stops)).events ∥₁
+  pub grown-of : h.start.replies ≡ before.start.replies → IsReplied plan first last (meaning_of p entry fuel (verdicts_of r.stops)).events r
   grown-of replies =
-      let seen : r.seen ≡ mid.sights = with.seen ∙ kept.at_next.seen in
-      subst (λ events. ∥ HasGrown plan first.replies last.replies r.seen r.stops events ∥₁) means
-      (subst (λ ss. ∥ HasGrown plan first.replies last.replies ss r.stops h.history.events ∥₁) (sym seen)
-      (subst (λ x. ∥ HasGrown plan first.replies last.replies mid.sights x h.history.events ∥₁) (sym with.stops)
-      (subst (λ rs. ∥ HasGrown plan first.replies rs mid.sights h.stops.items h.history.events ∥₁) (sym (ap (λ s. s.replies) last_is))
-      (subst (λ rs. ∥ HasGrown plan rs mid.replies mid.sights h.stops.items h.history.events ∥₁) (replies ∙ new.replies) kept.replied))))
+      subst (λ events. HasGrownBy (owed_of plan last.sights r.stops events) first.replies last.replies) means
+      (subst (λ x. HasGrownBy (owed_of plan last.sights x h.history.events) first.replies last.replies) (sym with.stops)
+      (subst (λ (s : Standing). HasGrownBy (owed_of plan s.sights h.stops.items h.history.events) first.replies s.replies) (sym last_is)
+      (subst (λ rs. HasGrownBy (owed_of plan mid.sights h.stops.items h.history.events) rs mid.replies) (replies ∙ new.replies) kept.replied)))
 
 pub given-of : (admits : Suspension → Answer → Type 0) (keeps : ℕ → Bool) (first start now : List (Suspension × Answer)) (h : Progress) (ran : Answered) (r : ContextRecord)
     → IsGiven admits keeps start now h.stops.items → start ≡ first → IsKeptWith ran h r → IsGiven admits keeps first now r.stops

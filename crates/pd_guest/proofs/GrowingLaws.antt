@@ -13,7 +13,7 @@ use Rattle.pd_board.specs.declared.answers.Drawn.{Drawn}
 use Rattle.pd_board.specs.declared.answers.Sight.{Sight}
 use Rattle.pd_board.specs.Standing.{Standing}
 use Rattle.pd_record.specs.Acts.{uses_up}
-use Rattle.pd_record.specs.Replies.{used_up_by}
+use Rattle.pd_record.specs.Replies.{used_up_by, Owed, of_hit, AreFor}
 use Rattle.pd_guest.specs.declared.deliver.Deliveries.{Deliveries}
 use Rattle.pd_guest.specs.Moment.{At}
 use Rattle.pd_guest.specs.Delivering.{IsTaken, spent_by}
@@ -21,13 +21,12 @@ use Rattle.pd_guest.specs.Offering.{IsOffered}
 use Rattle.pd_guest.specs.Offering as offered
 use Rattle.pd_guest.specs.Finishing.{IsFinished}
 use Rattle.pd_guest.specs.Finishing as finished
-use Rattle.pd_guest.specs.Replying.{Due, used, AreRepliesTo}
 use Rattle.pd_guest.specs.Growing.{IsMore}
 use Rattle.pd_guest.proofs.OfferingLaws.{no_acts}
 
 -- ---- answers, one after another
 
-pub replies-both : (ds es : List Due) (rs us : List ActResult) → AreRepliesTo ds rs → AreRepliesTo es us → AreRepliesTo (ds ++ es) (rs ++ us)
+pub replies-both : (ds es : List Owed) (rs us : List ActResult) → AreFor ds rs → AreFor es us → AreFor (ds ++ es) (rs ++ us)
 replies-both [] es [] us h k = k
 replies-both [] es (r ∷ rs) us h k = absurd h
 replies-both (d ∷ ds) es [] us h k = absurd h
@@ -56,20 +55,20 @@ more-after plan n old mid new a b = record {
   now = all_both n a.news b.news a.now b.now;
   more = a.more ++ b.more;
   replies = b.replies ∙ ap (λ x. x ++ b.more) a.replies ∙ append_assoc old.replies a.more b.more;
-  replied = subst (λ ds. AreRepliesTo ds (a.more ++ b.more))
-      (sym (ap (map used) (filter_map-append (used_up_by plan n) a.news b.news) ∙ map-append used (filter_map (used_up_by plan n) a.news) (filter_map (used_up_by plan n) b.news)))
-      (replies-both (map used (filter_map (used_up_by plan n) a.news)) (map used (filter_map (used_up_by plan n) b.news)) a.more b.more a.replied b.replied);
+  replied = subst (λ ds. AreFor ds (a.more ++ b.more))
+      (sym (ap (map of_hit) (filter_map-append (used_up_by plan n) a.news b.news) ∙ map-append of_hit (filter_map (used_up_by plan n) a.news) (filter_map (used_up_by plan n) b.news)))
+      (replies-both (map of_hit (filter_map (used_up_by plan n) a.news)) (map of_hit (filter_map (used_up_by plan n) b.news)) a.more b.more a.replied b.replied);
 }
 
 -- ---- a draw
 
 spent_replied : (plan : Plan) (n b : ℕ) (d : Drawn) (r : Dispose) (is : Bool) → uses_up plan b d ≡ is
-    → AreRepliesTo (map used (filter_map (used_up_by plan n) ((record { event = n; binding = b; drawn = d }) ∷ []))) (spent_by is b r)
+    → AreFor (map of_hit (filter_map (used_up_by plan n) ((record { event = n; binding = b; drawn = d }) ∷ []))) (spent_by is b r)
 spent_replied plan n b d r true h =
-    subst (λ (o : Bool). AreRepliesTo (map used (filter_map (λ (s : Sight). if o then Some s.binding else None) ((record { event = n; binding = b; drawn = d }) ∷ []))) (results.Disposed b r ∷ []))
+    subst (λ (o : Bool). AreFor (map of_hit (filter_map (λ (s : Sight). if o then Some s.binding else None) ((record { event = n; binding = b; drawn = d }) ∷ []))) (results.Disposed b r ∷ []))
     (sym (and_from (n == n) (uses_up plan b d) (eq-eqb n n refl) h)) (eq-eqb b b refl, tt)
 spent_replied plan n b d r false h =
-    subst (λ (o : Bool). AreRepliesTo (map used (filter_map (λ (s : Sight). if o then Some s.binding else None) ((record { event = n; binding = b; drawn = d }) ∷ []))) [])
+    subst (λ (o : Bool). AreFor (map of_hit (filter_map (λ (s : Sight). if o then Some s.binding else None) ((record { event = n; binding = b; drawn = d }) ∷ []))) [])
     (sym (no_right (n == n) (uses_up plan b d) h)) tt
   where
     no_right : (x y : Bool) → y ≡ false → (x && y) ≡ false

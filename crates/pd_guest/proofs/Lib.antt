@@ -11,3 +11,4 @@ pub mod ReplyLaws
 pub mod AnsweringLaws
 pub mod BeginningLaws
 pub mod AskingLaws
+pub mod ReadyLaws

@@ -6,7 +6,6 @@ use Rattle.std.proofs.lemmas.Bool.{and_parts, and_from, cond-true, cond-false, l
 use Rattle.std.proofs.lemmas.List.{append-nil, append_assoc, map-append}
 use Rattle.std.proofs.lemmas.List.Elements.{filter-append, filter_map-append, All-push}
 use Rattle.std.proofs.lemmas.Grind.{flat_map-append}
-use Rattle.std.proofs.Math.Logic.{∥∥₁_elim}
 use Rattle.pd_machine.specs.Events.{Told}
 use Rattle.pd_plan.specs.declared.plan.Plan.{Plan}
 use Rattle.pd_plan.specs.declared.plan.Answer.{Answer}
@@ -16,11 +15,11 @@ use Rattle.pd_board.specs.Standing.{Standing}
 use Rattle.pd_suspend.specs.declared.suspension.Suspension.{Suspension}
 use Rattle.pd_suspend.specs.Answers.{as_handed, acts_of}
 use Rattle.pd_record.specs.Acts.{uses_up}
-use Rattle.pd_record.specs.Replies.{used_up_by}
+use Rattle.pd_record.specs.Replies.{used_up_by, Owed, of_act, of_hit, owed_at, owed_of, AreFor, HasGrownBy}
 use Rattle.pd_record.specs.Turning.{is_earlier}
-use Rattle.pd_guest.specs.Replying.{Due, used, act, dues_at, dues_of, AreRepliesTo, HasGrown, answer_of, kept_stop, kept_by}
+use Rattle.pd_guest.specs.Replying.{answer_of, kept_stop, kept_by, IsGiven}
 use Rattle.pd_guest.specs.Growing.{IsMore}
-use Rattle.pd_guest.specs.Asking.{IsGiven, IsGivenBy}
+use Rattle.pd_guest.specs.Asking.{IsGivenBy}
 use Rattle.pd_guest.proofs.GrowingLaws.{replies-both}
 
 -- ---- what stands at other events
@@ -74,10 +73,10 @@ unfolding acts_at
 other_acts n e apart [] = refl
 other_acts n e apart (r ∷ rs) = filter_none e (n, r) (acts_at n rs) (ne_eqb n e apart) ∙ other_acts n e apart rs
 
-own_acts : (n : ℕ) (rs : List ActResult) → map (λ (a : ℕ × ActResult). act a.1) (filter (λ (a : ℕ × ActResult). a.0 == n) (acts_at n rs)) ≡ map act rs
+own_acts : (n : ℕ) (rs : List ActResult) → map (λ (a : ℕ × ActResult). of_act a.1) (filter (λ (a : ℕ × ActResult). a.0 == n) (acts_at n rs)) ≡ map of_act rs
 unfolding acts_at
 own_acts n [] = refl
-own_acts n (r ∷ rs) = ap (map (λ (a : ℕ × ActResult). act a.1)) (filter_some n (n, r) (acts_at n rs) (eq-eqb n n refl)) ∙ ap (λ xs. act r ∷ xs) (own_acts n rs)
+own_acts n (r ∷ rs) = ap (map (λ (a : ℕ × ActResult). of_act a.1)) (filter_some n (n, r) (acts_at n rs) (eq-eqb n n refl)) ∙ ap (λ xs. of_act r ∷ xs) (own_acts n rs)
 
 acts_of-push : (stops : List Suspension) (x : Suspension) → acts_of (stops ++ x ∷ []) ≡ acts_of stops ++ acts_at x.event x.acts
 unfolding acts_at
@@ -90,7 +89,7 @@ pub acts-push : (stops : List Suspension) (x : Suspension) → acts_of (stops ++
 unfolding acts_at
 acts-push stops x = acts_of-push stops x
 
-flat_same : (f g : Told → List Due) (r : Told → Bool) → ((t : Told) → r t ≡ true → f t ≡ g t) → (ts : List Told) → list_all r ts ≡ true → flat_map f ts ≡ flat_map g ts
+flat_same : (f g : Told → List Owed) (r : Told → Bool) → ((t : Told) → r t ≡ true → f t ≡ g t) → (ts : List Told) → list_all r ts ≡ true → flat_map f ts ≡ flat_map g ts
 flat_same f g r same [] h = refl
 flat_same f g r same (t ∷ ts) h =
     let parts = and_parts (r t) (list_all r ts) h in
@@ -99,89 +98,89 @@ flat_same f g r same (t ∷ ts) h =
 -- ---- an event is served
 
 dues_at-seen : (plan : Plan) (seen news : List Sight) (stops : List Suspension) (e n : ℕ) → (n ≡ e → ⊥) → list_all (λ (s : Sight). s.event == n) news ≡ true
-    → dues_at plan (seen ++ news) stops e ≡ dues_at plan seen stops e
+    → owed_at plan (seen ++ news) stops e ≡ owed_at plan seen stops e
 dues_at-seen plan seen news stops e n apart h =
-    ap (λ x. map used x ++ map (λ (a : ℕ × ActResult). act a.1) (filter (λ (a : ℕ × ActResult). a.0 == e) (acts_of stops)))
+    ap (λ x. map of_hit x ++ map (λ (a : ℕ × ActResult). of_act a.1) (filter (λ (a : ℕ × ActResult). a.0 == e) (acts_of stops)))
     (filter_map-append (used_up_by plan e) seen news ∙ ap (λ x. filter_map (used_up_by plan e) seen ++ x) (none_used plan e n apart news h) ∙ append-nil (filter_map (used_up_by plan e) seen))
 
 dues_at-now : (plan : Plan) (seen news : List Sight) (stops : List Suspension) (n : ℕ) → list_all (λ (s : Sight). nat_lt s.event n) seen ≡ true → list_all (is_earlier n) (acts_of stops) ≡ true
-    → dues_at plan (seen ++ news) stops n ≡ map used (filter_map (used_up_by plan n) news)
+    → owed_at plan (seen ++ news) stops n ≡ map of_hit (filter_map (used_up_by plan n) news)
 dues_at-now plan seen news stops n h k =
-    ap (λ x. map used x ++ map (λ (a : ℕ × ActResult). act a.1) (filter (λ (a : ℕ × ActResult). a.0 == n) (acts_of stops)))
+    ap (λ x. map of_hit x ++ map (λ (a : ℕ × ActResult). of_act a.1) (filter (λ (a : ℕ × ActResult). a.0 == n) (acts_of stops)))
     (filter_map-append (used_up_by plan n) seen news ∙ ap (λ x. x ++ filter_map (used_up_by plan n) news) (none_earlier plan n seen h))
-    ∙ ap (λ x. map used (filter_map (used_up_by plan n) news) ++ map (λ (a : ℕ × ActResult). act a.1) x) (none_done n (acts_of stops) k)
-    ∙ append-nil (map used (filter_map (used_up_by plan n) news))
+    ∙ ap (λ x. map of_hit (filter_map (used_up_by plan n) news) ++ map (λ (a : ℕ × ActResult). of_act a.1) x) (none_done n (acts_of stops) k)
+    ∙ append-nil (map of_hit (filter_map (used_up_by plan n) news))
 
 pub dues-served : (plan : Plan) (seen news : List Sight) (stops : List Suspension) (ts : List Told) (t : Told) (n : ℕ)
     → t.event.number ≡ n → list_all (λ (u : Told). nat_lt u.event.number n) ts ≡ true
     → list_all (λ (s : Sight). nat_lt s.event n) seen ≡ true → list_all (λ (s : Sight). s.event == n) news ≡ true → list_all (is_earlier n) (acts_of stops) ≡ true
-    → dues_of plan (seen ++ news) stops (ts ++ t ∷ []) ≡ dues_of plan seen stops ts ++ map used (filter_map (used_up_by plan n) news)
+    → owed_of plan (seen ++ news) stops (ts ++ t ∷ []) ≡ owed_of plan seen stops ts ++ map of_hit (filter_map (used_up_by plan n) news)
 dues-served plan seen news stops ts t n number below before now done =
-    flat_map-append (λ (u : Told). dues_at plan (seen ++ news) stops u.event.number) ts (t ∷ [])
-    ∙ ap (λ x. x ++ flat_map (λ (u : Told). dues_at plan (seen ++ news) stops u.event.number) (t ∷ []))
-    (flat_same (λ (u : Told). dues_at plan (seen ++ news) stops u.event.number) (λ (u : Told). dues_at plan seen stops u.event.number) (λ (u : Told). nat_lt u.event.number n)
+    flat_map-append (λ (u : Told). owed_at plan (seen ++ news) stops u.event.number) ts (t ∷ [])
+    ∙ ap (λ x. x ++ flat_map (λ (u : Told). owed_at plan (seen ++ news) stops u.event.number) (t ∷ []))
+    (flat_same (λ (u : Told). owed_at plan (seen ++ news) stops u.event.number) (λ (u : Told). owed_at plan seen stops u.event.number) (λ (u : Told). nat_lt u.event.number n)
     (λ u h. dues_at-seen plan seen news stops u.event.number n (λ e. let less : u.event.number < n = ltb-true u.event.number n h in omega (arith, less, e)) now) ts below)
-    ∙ ap (λ x. dues_of plan seen stops ts ++ x)
-    (append-nil (dues_at plan (seen ++ news) stops t.event.number) ∙ ap (dues_at plan (seen ++ news) stops) number ∙ dues_at-now plan seen news stops n before done)
+    ∙ ap (λ x. owed_of plan seen stops ts ++ x)
+    (append-nil (owed_at plan (seen ++ news) stops t.event.number) ∙ ap (owed_at plan (seen ++ news) stops) number ∙ dues_at-now plan seen news stops n before done)
 
 pub grown-served : (plan : Plan) (start : List ActResult) (n : ℕ) (old new : Standing) (stops : List Suspension) (ts : List Told) (t : Told)
     → t.event.number ≡ n → list_all (λ (u : Told). nat_lt u.event.number n) ts ≡ true
     → list_all (λ (s : Sight). nat_lt s.event n) old.sights ≡ true → list_all (is_earlier n) (acts_of stops) ≡ true
-    → IsMore plan n old new → HasGrown plan start old.replies old.sights stops ts → HasGrown plan start new.replies new.sights stops (ts ++ t ∷ [])
+    → IsMore plan n old new → HasGrownBy (owed_of plan old.sights stops ts) start old.replies → HasGrownBy (owed_of plan new.sights stops (ts ++ t ∷ [])) start new.replies
 grown-served plan start n old new stops ts t number below before done i g = record {
-  more = g.more ++ i.more;
-  after_is = i.replies ∙ ap (λ x. x ++ i.more) g.after_is ∙ append_assoc start g.more i.more;
-  replies = subst (λ ss. AreRepliesTo (dues_of plan ss stops (ts ++ t ∷ [])) (g.more ++ i.more)) (sym i.sights)
-      (subst (λ ds. AreRepliesTo ds (g.more ++ i.more)) (sym (dues-served plan old.sights i.news stops ts t n number below before i.now done))
-      (replies-both (dues_of plan old.sights stops ts) (map used (filter_map (used_up_by plan n) i.news)) g.more i.more g.replies i.replied));
+  grown = g.grown ++ i.more;
+  replies = i.replies ∙ ap (λ x. x ++ i.more) g.replies ∙ append_assoc start g.grown i.more;
+  each = subst (λ ss. AreFor (owed_of plan ss stops (ts ++ t ∷ [])) (g.grown ++ i.more)) (sym i.sights)
+      (subst (λ ds. AreFor ds (g.grown ++ i.more)) (sym (dues-served plan old.sights i.news stops ts t n number below before i.now done))
+      (replies-both (owed_of plan old.sights stops ts) (map of_hit (filter_map (used_up_by plan n) i.news)) g.grown i.more g.each i.replied));
 }
 
 -- ---- a suspension was answered
 
-dues_at-later : (plan : Plan) (seen : List Sight) (stops : List Suspension) (x : Suspension) (e : ℕ) → (x.event ≡ e → ⊥) → dues_at plan seen (stops ++ x ∷ []) e ≡ dues_at plan seen stops e
+dues_at-later : (plan : Plan) (seen : List Sight) (stops : List Suspension) (x : Suspension) (e : ℕ) → (x.event ≡ e → ⊥) → owed_at plan seen (stops ++ x ∷ []) e ≡ owed_at plan seen stops e
 dues_at-later plan seen stops x e apart =
-    ap (λ y. map used (filter_map (used_up_by plan e) seen) ++ map (λ (a : ℕ × ActResult). act a.1) y)
+    ap (λ y. map of_hit (filter_map (used_up_by plan e) seen) ++ map (λ (a : ℕ × ActResult). of_act a.1) y)
     (ap (filter (λ (a : ℕ × ActResult). a.0 == e)) (acts_of-push stops x) ∙ filter-append (λ (a : ℕ × ActResult). a.0 == e) (acts_of stops) (acts_at x.event x.acts)
     ∙ ap (λ y. filter (λ (a : ℕ × ActResult). a.0 == e) (acts_of stops) ++ y) (other_acts x.event e apart x.acts) ∙ append-nil (filter (λ (a : ℕ × ActResult). a.0 == e) (acts_of stops)))
 
-dues_at-own : (plan : Plan) (seen : List Sight) (stops : List Suspension) (x : Suspension) → dues_at plan seen (stops ++ x ∷ []) x.event ≡ dues_at plan seen stops x.event ++ map act x.acts
+dues_at-own : (plan : Plan) (seen : List Sight) (stops : List Suspension) (x : Suspension) → owed_at plan seen (stops ++ x ∷ []) x.event ≡ owed_at plan seen stops x.event ++ map of_act x.acts
 dues_at-own plan seen stops x =
     let e = x.event in
-    let begins : List Due = map used (filter_map (used_up_by plan e) seen) in
+    let begins : List Owed = map of_hit (filter_map (used_up_by plan e) seen) in
     let did : List (ℕ × ActResult) = filter (λ (a : ℕ × ActResult). a.0 == e) (acts_of stops) in
-    ap (λ y. begins ++ map (λ (a : ℕ × ActResult). act a.1) y)
+    ap (λ y. begins ++ map (λ (a : ℕ × ActResult). of_act a.1) y)
     (ap (filter (λ (a : ℕ × ActResult). a.0 == e)) (acts_of-push stops x) ∙ filter-append (λ (a : ℕ × ActResult). a.0 == e) (acts_of stops) (acts_at e x.acts))
-    ∙ ap (λ y. begins ++ y) (map-append (λ (a : ℕ × ActResult). act a.1) did (filter (λ (a : ℕ × ActResult). a.0 == e) (acts_at e x.acts)) ∙ ap (λ y. map (λ (a : ℕ × ActResult). act a.1) did ++ y) (own_acts e x.acts))
-    ∙ sym (append_assoc begins (map (λ (a : ℕ × ActResult). act a.1) did) (map act x.acts))
+    ∙ ap (λ y. begins ++ y) (map-append (λ (a : ℕ × ActResult). of_act a.1) did (filter (λ (a : ℕ × ActResult). a.0 == e) (acts_at e x.acts)) ∙ ap (λ y. map (λ (a : ℕ × ActResult). of_act a.1) did ++ y) (own_acts e x.acts))
+    ∙ sym (append_assoc begins (map (λ (a : ℕ × ActResult). of_act a.1) did) (map of_act x.acts))
 
 pub dues-asked : (plan : Plan) (seen : List Sight) (stops : List Suspension) (x : Suspension) (ts : List Told) (t : Told)
     → t.event.number ≡ x.event → list_all (λ (u : Told). nat_lt u.event.number x.event) ts ≡ true
-    → dues_of plan seen (stops ++ x ∷ []) (ts ++ t ∷ []) ≡ dues_of plan seen stops (ts ++ t ∷ []) ++ map act x.acts
+    → owed_of plan seen (stops ++ x ∷ []) (ts ++ t ∷ []) ≡ owed_of plan seen stops (ts ++ t ∷ []) ++ map of_act x.acts
 dues-asked plan seen stops x ts t number below =
-    let before : Told → List Due = λ u. dues_at plan seen stops u.event.number in
-    let after : Told → List Due = λ u. dues_at plan seen (stops ++ x ∷ []) u.event.number in
-    let here : after t ≡ before t ++ map act x.acts =
-    ap (dues_at plan seen (stops ++ x ∷ [])) number ∙ dues_at-own plan seen stops x ∙ ap (λ e. dues_at plan seen stops e ++ map act x.acts) (sym number) in
+    let before : Told → List Owed = λ u. owed_at plan seen stops u.event.number in
+    let after : Told → List Owed = λ u. owed_at plan seen (stops ++ x ∷ []) u.event.number in
+    let here : after t ≡ before t ++ map of_act x.acts =
+    ap (owed_at plan seen (stops ++ x ∷ [])) number ∙ dues_at-own plan seen stops x ∙ ap (λ e. owed_at plan seen stops e ++ map of_act x.acts) (sym number) in
     flat_map-append after ts (t ∷ [])
     ∙ ap (λ y. y ++ flat_map after (t ∷ []))
     (flat_same after before (λ (u : Told). nat_lt u.event.number x.event)
     (λ u h. dues_at-later plan seen stops x u.event.number (λ e. let less : u.event.number < x.event = ltb-true u.event.number x.event h in omega (arith, less, e))) ts below)
-    ∙ ap (λ y. flat_map before ts ++ y) (append-nil (after t) ∙ here ∙ ap (λ y. y ++ map act x.acts) (sym (append-nil (before t))))
-    ∙ sym (append_assoc (flat_map before ts) (flat_map before (t ∷ [])) (map act x.acts))
-    ∙ ap (λ y. y ++ map act x.acts) (sym (flat_map-append before ts (t ∷ [])))
+    ∙ ap (λ y. flat_map before ts ++ y) (append-nil (after t) ∙ here ∙ ap (λ y. y ++ map of_act x.acts) (sym (append-nil (before t))))
+    ∙ sym (append_assoc (flat_map before ts) (flat_map before (t ∷ [])) (map of_act x.acts))
+    ∙ ap (λ y. y ++ map of_act x.acts) (sym (flat_map-append before ts (t ∷ [])))
 
-replies_to_acts : (rs : List ActResult) → AreRepliesTo (map act rs) rs
+replies_to_acts : (rs : List ActResult) → AreFor (map of_act rs) rs
 replies_to_acts [] = tt
 replies_to_acts (r ∷ rs) = (refl, replies_to_acts rs)
 
 pub grown-asked : (plan : Plan) (start old new : List ActResult) (seen : List Sight) (stops : List Suspension) (x : Suspension) (ts : List Told) (t : Told)
     → t.event.number ≡ x.event → list_all (λ (u : Told). nat_lt u.event.number x.event) ts ≡ true → new ≡ old ++ x.acts
-    → HasGrown plan start old seen stops (ts ++ t ∷ []) → HasGrown plan start new seen (stops ++ x ∷ []) (ts ++ t ∷ [])
+    → HasGrownBy (owed_of plan seen stops (ts ++ t ∷ [])) start old → HasGrownBy (owed_of plan seen (stops ++ x ∷ []) (ts ++ t ∷ [])) start new
 grown-asked plan start old new seen stops x ts t number below replied g = record {
-  more = g.more ++ x.acts;
-  after_is = replied ∙ ap (λ y. y ++ x.acts) g.after_is ∙ append_assoc start g.more x.acts;
-  replies = subst (λ ds. AreRepliesTo ds (g.more ++ x.acts)) (sym (dues-asked plan seen stops x ts t number below))
-      (replies-both (dues_of plan seen stops (ts ++ t ∷ [])) (map act x.acts) g.more x.acts g.replies (replies_to_acts x.acts));
+  grown = g.grown ++ x.acts;
+  replies = replied ∙ ap (λ y. y ++ x.acts) g.replies ∙ append_assoc start g.grown x.acts;
+  each = subst (λ ds. AreFor ds (g.grown ++ x.acts)) (sym (dues-asked plan seen stops x ts t number below))
+      (replies-both (owed_of plan seen stops (ts ++ t ∷ [])) (map of_act x.acts) g.grown x.acts g.each (replies_to_acts x.acts));
 }
 
 -- ---- the answerer's list
@@ -194,7 +193,7 @@ kept_more keeps x list false h = sym (append-nil list) ∙ ap (λ o. list ++ con
 pub given-more : (admits : Suspension → Answer → Type 0) (keeps : ℕ → Bool) (first old new : List (Suspension × Answer)) (stops : List Suspension) (x : Suspension)
     → IsGiven admits keeps first old stops → IsGivenBy admits keeps old new x → IsGiven admits keeps first new (stops ++ x ∷ [])
 given-more admits keeps first old new stops x i j = record {
-  admitted = All-push (λ y. ∥ admits (as_handed y) (answer_of y) ∥₁) stops x i.admitted ∣ j.admitted ∣₁;
+  admitted = All-push (λ y. admits (as_handed y) (answer_of y)) stops x i.admitted j.admitted;
   kept = j.kept ∙ kept_more keeps x old (keeps x.session) refl ∙ ap (λ y. y ++ kept_by keeps (x ∷ [])) i.kept
       ∙ append_assoc first (kept_by keeps stops) (kept_by keeps (x ∷ [])) ∙ ap (λ y. first ++ y) (sym (filter_map-append (kept_stop keeps) stops (x ∷ [])));
 }

@@ -35,7 +35,8 @@ use Rattle.pd_guest.specs.declared.deliver.Deliveries.{Deliveries}
 use Rattle.pd_board.specs.declared.answers.Known.{Known}
 use Rattle.pd_guest.specs.Moment.{At}
 use Rattle.pd_guest.specs.Keeping.{IsKeptAt, start_of}
-use Rattle.pd_guest.specs.Replying.{answer_of, kept_by, HasGrown}
+use Rattle.pd_record.specs.Replies.{owed_of, HasGrownBy}
+use Rattle.pd_guest.specs.Replying.{answer_of}
 
 -- whether the run goes on as it is
 abbrev pub is_go : Verdict → Bool
@@ -64,7 +65,7 @@ pub record IsKept (plan : Plan) (p : Program) (s : Standing) (h : Progress) : Ty
   pub shares : (x : ℕ) → x < s.sessions → 2 ^ 26 ≤ s.answer_share x + (length h.history.events)
   pub numbers : (x : ℕ) → s.numbers x ≡ numbers_in x h.stops.items
   pub rising : (x : ℕ) → rises (numbers_in x h.stops.items) ≡ true
-  pub replied : ∥ HasGrown plan h.start.replies s.replies s.sights h.stops.items h.history.events ∥₁
+  pub replied : HasGrownBy (owed_of plan s.sights h.stops.items h.history.events) h.start.replies s.replies
 
 -- those sessions that are still to be asked, from this number on, where the run goes on as it is
 abbrev pub left_of : Plan → ℕ → Bool → List ℕ
@@ -92,12 +93,7 @@ pub record IsAsking (m : At) (first i : ℕ) (goes : Bool) (s : Standing) (h : P
   pub shares : (x : ℕ) → x < s.sessions → 2 ^ 26 ≤ s.answer_share x + ((length h.history.events) + 1)
   pub numbers : (x : ℕ) → s.numbers x ≡ numbers_in x h.stops.items
   pub rising : (x : ℕ) → rises (numbers_in x h.stops.items) ≡ true
-  pub replied : ∥ HasGrown m.plan h.start.replies s.replies s.sights h.stops.items (h.history.events ++ m.told ∷ []) ∥₁
-
--- the answers to the suspensions are ones that may be given, and the answerer has kept those of the sessions that it keeps
-pub record IsGiven (admits : Suspension → Answer → Type 0) (keeps : ℕ → Bool) (first list : List (Suspension × Answer)) (stops : List Suspension) : Type 0 where
-  pub admitted : All (λ x. ∥ admits (as_handed x) (answer_of x) ∥₁) stops
-  pub kept : list ≡ first ++ kept_by keeps stops
+  pub replied : HasGrownBy (owed_of m.plan s.sights h.stops.items (h.history.events ++ m.told ∷ [])) h.start.replies s.replies
 
 -- a session was asked at an event for these reasons, and its suspension is x
 pub record IsAsked (m : At) (session : ℕ) (reasons : List Reason) (old new : Standing) (before after : Progress) (x : Suspension) : Type 0 where

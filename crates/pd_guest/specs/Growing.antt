@@ -6,8 +6,7 @@ use Rattle.pd_plan.specs.declared.plan.Plan.{Plan}
 use Rattle.pd_board.specs.declared.answers.ActResult.{ActResult}
 use Rattle.pd_board.specs.declared.answers.Sight.{Sight}
 use Rattle.pd_board.specs.Standing.{Standing}
-use Rattle.pd_record.specs.Replies.{used_up_by}
-use Rattle.pd_guest.specs.Replying.{used, AreRepliesTo}
+use Rattle.pd_record.specs.Replies.{used_up_by, of_hit, AreFor}
 
 -- at event n these were seen more, and the board answered the disposals of those that were used up
 pub record IsMore (plan : Plan) (n : ℕ) (old new : Standing) : Type 0 where
@@ -16,4 +15,4 @@ pub record IsMore (plan : Plan) (n : ℕ) (old new : Standing) : Type 0 where
   pub now : list_all (λ x. x.event == n) news ≡ true
   pub more : List ActResult
   pub replies : new.replies ≡ old.replies ++ more
-  pub replied : AreRepliesTo (map used (filter_map (used_up_by plan n) news)) more
+  pub replied : AreFor (map of_hit (filter_map (used_up_by plan n) news)) more

@@ -8,9 +8,8 @@ ghost use Rattle.pd_suspend.specs.Answers.{IsLawful};
 ghost use Rattle.pd_suspend.specs.Counters.{idle};
 ghost use Rattle.pd_suspend.specs.Stops.{verdicts_of};
 ghost use Rattle.pd_record.specs.Serving.{log_at};
-ghost use Rattle.pd_record.specs.Record.{IsRecord};
-ghost use Rattle.pd_guest.specs.Asking.{IsGiven};
-ghost use Rattle.pd_guest.specs.Replying.{HasGrown};
+ghost use Rattle.pd_record.specs.Record.{IsRecord, IsReplied};
+ghost use Rattle.pd_guest.specs.Replying.{IsGiven};
 ghost use Rattle.pd_guest.specs.Keeping.{IsNew};
 ghost use Rattle.pd_guest.specs.Beginning.{fuel_at, IsReadyFor, IsKeptWith, IsOver, words_of};
 
@@ -50,7 +49,7 @@ pub fn run_context<B: Board, A: Answerer, G: Gate>(
     requires lawful { (x : Stop) (a : Given) → A.admits (A.base answerer.old) x a → IsLawful plan.now a }
     ensures record { IfOk result (IsRecord plan.now program.now (slice_index program.now.entries context) (fuel_at plan.now context) context (B.standing board.old) (B.standing board.new)) }
     ensures given { IfOk result (λ r. IsGiven (A.admits (A.base answerer.old)) (A.keeps (A.base answerer.old)) (A.list answerer.old) (A.list answerer.new) r.stops) }
-    ensures replied { IfOk result (λ r. ∥ HasGrown plan.now (B.standing board.old).replies (B.standing board.new).replies r.seen r.stops (meaning_of program.now (slice_index program.now.entries context) (fuel_at plan.now context) (verdicts_of r.stops)).events ∥₁) }
+    ensures replied { IfOk result (λ r. IsReplied plan.now (B.standing board.old) (B.standing board.new) (meaning_of program.now (slice_index program.now.entries context) (fuel_at plan.now context) (verdicts_of r.stops)).events r) }
     ensures over { IfOk result (λ _. IsOver (B.standing board.old) (B.standing board.new)) }
     ensures ended { (B.standing board.new).ended ≡ true }
     ensures words { words_of (B.standing board.new) ≡ words_of (B.standing board.old) }
@@ -84,7 +83,7 @@ fn run_begun<B: Board, A: Answerer, G: Gate>(
     requires new { IsNew context (length plan.now.bindings) (length plan.now.sessions) (B.standing board.old) (A.list answerer.old) h }
     ensures record { IfOk result (IsRecord plan.now program.now (slice_index program.now.entries context) (fuel_at plan.now context) context (B.standing board.old) (B.standing board.new)) }
     ensures given { IfOk result (λ r. IsGiven (A.admits (A.base answerer.old)) (A.keeps (A.base answerer.old)) (A.list answerer.old) (A.list answerer.new) r.stops) }
-    ensures replied { IfOk result (λ r. ∥ HasGrown plan.now (B.standing board.old).replies (B.standing board.new).replies r.seen r.stops (meaning_of program.now (slice_index program.now.entries context) (fuel_at plan.now context) (verdicts_of r.stops)).events ∥₁) }
+    ensures replied { IfOk result (λ r. IsReplied plan.now (B.standing board.old) (B.standing board.new) (meaning_of program.now (slice_index program.now.entries context) (fuel_at plan.now context) (verdicts_of r.stops)).events r) }
     ensures over { IfOk result (λ _. IsOver (B.standing board.old) (B.standing board.new)) }
     ensures ended { (B.standing board.new).ended ≡ true }
     ensures words { words_of (B.standing board.new) ≡ words_of (B.standing board.old) }

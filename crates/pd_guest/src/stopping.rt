@@ -8,7 +8,8 @@ ghost use Rattle.pd_meaning.specs.Meaning.{Verdicts};
 ghost use Rattle.pd_eval.specs.Watching.{GivesNoFunction, keep};
 ghost use Rattle.pd_order.specs.Order.{IsNext};
 ghost use Rattle.pd_guest.specs.Delivering.{settled_of};
-ghost use Rattle.pd_guest.specs.Asking.{IsKept, IsAsking, IsGiven, IsGivenBy, IsAsked, IsPlaceOf, is_go, verdict_by, stepper_at};
+ghost use Rattle.pd_guest.specs.Replying.{IsGiven};
+ghost use Rattle.pd_guest.specs.Asking.{IsKept, IsAsking, IsGivenBy, IsAsked, IsPlaceOf, is_go, verdict_by, stepper_at};
 ghost use Rattle.pd_plan.specs.declared.plan.Resume.TheVariants.{Continue as GoOn};
 ghost use Rattle.pd_board.specs.Standing.{bindings};
 ghost use Rattle.pd_suspend.specs.Counters.{moved_any};
@@ -37,7 +38,7 @@ pub(crate) fn attend<B: Board, A: Answerer>(
 ) -> Result<Verdict, AllocError>
     requires kept { IsKept m.now.plan m.now.program (B.standing board.old) h.old }
     requires given { IsGiven (A.admits (A.base answerer.old)) (A.keeps (A.base answerer.old)) h.old.first.list (A.list answerer.old) h.old.stops.items }
-    requires lawful { (x : Stop) (a : Given) → A.admits (A.base answerer.old) x a → ∥ IsLawful m.now.plan a ∥₁ }
+    requires lawful { (x : Stop) (a : Given) → A.admits (A.base answerer.old) x a → IsLawful m.now.plan a }
     requires next { IsNext h.old.history.events m.now.told.event }
     requires node { m.now.told.event.node < (B.standing board.old).nodes }
     requires few { m.now.told.event.number < 2 ^ 25 }
@@ -72,7 +73,7 @@ fn stop_all<B: Board, A: Answerer>(
 ) -> Result<Verdict, AllocError>
     requires asking { IsAsking m.now first 0 true (B.standing board.old) h.old }
     requires given { IsGiven (A.admits (A.base answerer.old)) (A.keeps (A.base answerer.old)) h.old.first.list (A.list answerer.old) h.old.stops.items }
-    requires lawful { (x : Stop) (a : Given) → A.admits (A.base answerer.old) x a → ∥ IsLawful m.now.plan a ∥₁ }
+    requires lawful { (x : Stop) (a : Given) → A.admits (A.base answerer.old) x a → IsLawful m.now.plan a }
     ensures asking { IfOk result (λ v. IsAsking m.now first (length m.now.plan.sessions) (is_go v) (B.standing board.new) h.new) }
     ensures given { OnOk result (IsGiven (A.admits (A.base answerer.old)) (A.keeps (A.base answerer.old)) h.old.first.list (A.list answerer.new) h.new.stops.items) }
     ensures verdict { IfOk result (λ v. verdicts_of h.new.stops.items ≡ keep (verdicts_of h.old.stops.items) m.now.told.event.number v) }
@@ -107,7 +108,7 @@ fn turn<B: Board, A: Answerer>(
     requires session { session < length m.now.plan.sessions }
     requires place { IsPlaceOf m.now place }
     requires given { IsGiven (A.admits (A.base answerer.old)) (A.keeps (A.base answerer.old)) h.old.first.list (A.list answerer.old) h.old.stops.items }
-    requires lawful { (x : Stop) (a : Given) → A.admits (A.base answerer.old) x a → ∥ IsLawful m.now.plan a ∥₁ }
+    requires lawful { (x : Stop) (a : Given) → A.admits (A.base answerer.old) x a → IsLawful m.now.plan a }
     requires value { GivesNoFunction verdict }
     ensures asking { IfOk result (λ v. IsAsking m.now first (session + 1) (is_go v) (B.standing board.new) h.new) }
     ensures given { OnOk result (IsGiven (A.admits (A.base answerer.old)) (A.keeps (A.base answerer.old)) h.old.first.list (A.list answerer.new) h.new.stops.items) }
@@ -150,7 +151,7 @@ fn stop<B: Board, A: Answerer>(
     requires session { session < length m.now.plan.sessions }
     requires place { IsPlaceOf m.now place }
     requires given { IsGiven (A.admits (A.base answerer.old)) (A.keeps (A.base answerer.old)) h.old.first.list (A.list answerer.old) h.old.stops.items }
-    requires lawful { (x : Stop) (a : Given) → A.admits (A.base answerer.old) x a → ∥ IsLawful m.now.plan a ∥₁ }
+    requires lawful { (x : Stop) (a : Given) → A.admits (A.base answerer.old) x a → IsLawful m.now.plan a }
     ensures asking { IfOk result (λ v. IsAsking m.now first (session + 1) (is_go v) (B.standing board.new) h.new) }
     ensures given { OnOk result (IsGiven (A.admits (A.base answerer.old)) (A.keeps (A.base answerer.old)) h.old.first.list (A.list answerer.new) h.new.stops.items) }
     ensures verdict { IfOk result (λ v. verdicts_of h.new.stops.items ≡ keep (verdicts_of h.old.stops.items) m.now.told.event.number v) }
@@ -193,7 +194,7 @@ fn ask<B: Board, A: Answerer>(
     requires answers { (x : ℕ) → x < (B.standing board.old).sessions → 2 < (B.standing board.old).answer_share x }
     requires bindings { bindings (B.standing board.old) ≡ length m.now.plan.bindings }
     requires few { length h.old.stops.items < 2 ^ 32 }
-    requires lawful { (x : Stop) (a : Given) → A.admits (A.base answerer.old) x a → ∥ IsLawful m.now.plan a ∥₁ }
+    requires lawful { (x : Stop) (a : Given) → A.admits (A.base answerer.old) x a → IsLawful m.now.plan a }
     ensures asked { IfOk result (λ v. (x : Stop) × IsAsked m.now session reasons (B.standing board.old) (B.standing board.new) h.old h.new x × (v ≡ verdict_by x.resume) × IsGivenBy (A.admits (A.base answerer.old)) (A.keeps (A.base answerer.old)) (A.list answerer.old) (A.list answerer.new) x) }
     ensures value { IfOk result GivesNoFunction }
     ensures rest { h.new ≡ record h.old { stops = h.new.stops; steppers = h.new.steppers } }

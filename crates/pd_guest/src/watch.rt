@@ -10,7 +10,8 @@ ghost use Rattle.pd_suspend.specs.declared.suspension.Suspension.{Suspension as 
 ghost use Rattle.pd_suspend.specs.Answers.{IsLawful};
 ghost use Rattle.pd_suspend.specs.Stops.{verdicts_of};
 ghost use Rattle.pd_guest.specs.Delivering.{settled_of};
-ghost use Rattle.pd_guest.specs.Asking.{IsKept, IsGiven};
+ghost use Rattle.pd_guest.specs.Asking.{IsKept};
+ghost use Rattle.pd_guest.specs.Replying.{IsGiven};
 
 use crate::moment::Moment;
 use crate::serving::Progress;
@@ -48,7 +49,7 @@ impl<B: Board, A: Answerer, G: Gate> Watcher for Guest<'_, '_, '_, '_, B, A, G> 
 
     ghost ready = { λ w. IsKept w.plan.now w.program.now (B.standing w.board.now) w.h
         × IsGiven (A.admits (A.base w.answerer.now)) (A.keeps (A.base w.answerer.now)) w.h.first.list (A.list w.answerer.now) w.h.stops.items
-        × ((x : Stop) (a : Given) → A.admits (A.base w.answerer.now) x a → ∥ IsLawful w.plan.now a ∥₁) };
+        × ((x : Stop) (a : Given) → A.admits (A.base w.answerer.now) x a → IsLawful w.plan.now a) };
 
     fn event(&mut self, event: &Event, scene: &Scene<'_>) -> Result<Verdict, AllocError> {
         self.gate.at(self.h.context, event.number);

@@ -9,7 +9,8 @@ use Rattle.pd_eval.specs.Watching.{IsRan}
 use Rattle.pd_suspend.specs.declared.suspension.Suspension.{Suspension}
 use Rattle.pd_suspend.specs.Stops.{verdicts_of}
 use Rattle.pd_guest.specs.declared.serving.Progress.{Progress}
-use Rattle.pd_guest.specs.Asking.{IsKept, IsGiven}
+use Rattle.pd_guest.specs.Asking.{IsKept}
+use Rattle.pd_guest.specs.Replying.{IsGiven}
 use Rattle.pd_guest.specs.Beginning.{fuel_at}
 use Rattle.pd_guest.proofs.BeginningLaws.{begins-kept, begins-given, record-of, grown-of, given-of, given-end}
 use Rattle.pd_guest.proofs.record.run_begun.Goals as goal
@@ -20,7 +21,7 @@ run-ran-requires-clause-ready g c =
       begins-kept c.args.plan.now c.args.program.now c.args.context (g.A.Answerer.list c.args.answerer.now) s c.args.h c.requires.board c.requires.new,
       begins-given (g.A.Answerer.admits (g.A.Answerer.base c.args.answerer.now)) (g.A.Answerer.keeps (g.A.Answerer.base c.args.answerer.now))
           c.args.context (length c.args.plan.now.bindings) (length c.args.plan.now.sessions) (g.A.Answerer.list c.args.answerer.now) s c.args.h c.requires.new,
-      λ x a admitted. ∣ c.requires.lawful x a admitted ∣₁,
+      λ x a admitted. c.requires.lawful x a admitted,
     )
 
 pub returns-clause-record : goal.returns-clause-record

@@ -9,7 +9,8 @@ use Rattle.pd_suspend.specs.Counters.{moved_any}
 use Rattle.pd_suspend.specs.Stops.{verdicts_of}
 use Rattle.pd_guest.specs.declared.serving.Progress.{Progress}
 use Rattle.pd_guest.specs.Moment.{At}
-use Rattle.pd_guest.specs.Asking.{IsGiven, stepper_at}
+use Rattle.pd_guest.specs.Asking.{stepper_at}
+use Rattle.pd_guest.specs.Replying.{IsGiven}
 use Rattle.pd_guest.proofs.AskingLaws.{read-as, slice-from, asked-reasons, asking-runs, asking-asked-any, verdicts-kept}
 use Rattle.pd_guest.proofs.ReplyLaws.{given-more}
 use Rattle.pd_guest.proofs.stopping.stop.Goals as goal

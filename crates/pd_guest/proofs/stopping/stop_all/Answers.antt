@@ -3,7 +3,8 @@ use Rattle.std.proofs.Common.{◌≡◌, ℕ, ◌<◌, length, sym, ap, ◌∙�
 use Rattle.pd_board.specs.Standing.{Standing}
 use Rattle.pd_guest.specs.declared.serving.Progress.{Progress}
 use Rattle.pd_guest.specs.Moment.{At}
-use Rattle.pd_guest.specs.Asking.{IsAsking, IsGiven, is_go}
+use Rattle.pd_guest.specs.Asking.{IsAsking, is_go}
+use Rattle.pd_guest.specs.Replying.{IsGiven}
 use Rattle.pd_guest.proofs.stopping.stop_all.Goals as goal
 
 pub turn-requires-clause-given : goal.turn-requires-clause-given

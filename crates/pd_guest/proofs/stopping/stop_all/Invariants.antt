@@ -3,7 +3,8 @@ use Rattle.std.proofs.Common.{◌≡◌, length}
 use Rattle.pd_eval.specs.Watching.{GivesNoFunction, keep}
 use Rattle.pd_suspend.specs.Stops.{verdicts_of}
 use Rattle.pd_guest.specs.Delivering.{settled_of}
-use Rattle.pd_guest.specs.Asking.{IsAsking, IsGiven, is_go}
+use Rattle.pd_guest.specs.Asking.{IsAsking, is_go}
+use Rattle.pd_guest.specs.Replying.{IsGiven}
 use Rattle.pd_guest.proofs.stopping.stop_all.Given as goal
 
 abbrev pub invariant-sessions : goal.invariant-sessions
