@@ -2,7 +2,7 @@
 use pd_plan::{Act, Answer, Plan, Resume, Script};
 use pd_suspend::{
     Anchor, Answerer, ScriptAnswerer, Stepper, Suspension, copy_answer, copy_resume, goes_on,
-    scripted_answer, stepping_law,
+    script_law, scripted_answer, stepping_law,
 };
 use pd_values::{Items, NodeId, Value};
 use std::alloc::{AllocError, Global};
@@ -201,6 +201,7 @@ fn steps_end_where_the_rule_says(rt: HostRuntime) -> Result<(), Fail> {
     }
     assert_eq!(rt; lines, 120);
     stepping_law();
+    script_law();
     Ok(())
 }
 

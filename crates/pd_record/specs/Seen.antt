@@ -73,10 +73,10 @@ is_end_met plan p seen passed b t =
     is_enter t.event.kind || not (is_subject plan p seen b t) || is_met seen passed t.event.number b
 
 -- what was seen at these events, each after so many loads of nodes, and what was passed; and how often each node was loaded
-pub record IsSeen (plan : Plan) (p : Program) (events : List Told) (seen : List Sight) (after : List ℕ) (passed : List Passed) (loaded : ℕ → ℕ) : Type 0 where
+pub record IsSeen (plan : Plan) (p : Program) (events : List Told) (seen : List Sight) (sight_loads : List ℕ) (passed : List Passed) (loaded : ℕ → ℕ) : Type 0 where
   pub order : in_order seen ≡ true
   pub subjects : list_all (λ s. is_subject_at plan p seen events s.event s.binding) seen ≡ true
   -- a node is loaded once at each of its Enters, and what is seen at an event comes after the loads up to there
   pub loads : (n : ℕ) → loaded n ≡ enters_of n events
-  pub loads_before : after ≡ map (λ s. enters_to s.event events) seen
+  pub loads_before : sight_loads ≡ map (λ s. enters_to s.event events) seen
   pub passes : list_all (is_due_pass plan p seen events) passed ≡ true

@@ -1,19 +1,16 @@
 -- The stepper of a session: what it sees is where the step that the session's last suspension left ends.
-use Rattle.std.proofs.Common.{◌≡◌, ℕ, zero, suc, ◌+◌, ◌<◌, ◌≤◌, Bool, true, false, ◌==◌, List, [], ◌∷◌, ◌++◌, length, drop, refl, sym, ap, ◌∙◌, subst, arith, Option, Some, None}
-use Rattle.std.specs.Prelude.{if◌then◌else◌}
-use Rattle.std.proofs.lemmas.List.{length-append}
+use Rattle.std.proofs.Common.{◌≡◌, ℕ, zero, suc, ◌+◌, ◌≤◌, Bool, false, List, [], ◌∷◌, ◌++◌, length, drop, refl, sym, ap, ◌∙◌, subst, arith, Option, Some, None}
+use Rattle.std.specs.List.{range_with_len}
+use Rattle.std.proofs.lemmas.List.{length-append, map-append}
 use Rattle.std.proofs.lemmas.Bool.{eq-eqb, ne_eqb}
 use Rattle.std.specs.Option.{option_map}
-use Rattle.pd_plan.specs.declared.plan.Resume.{Resume}
 use Rattle.pd_tree.specs.Program.{Program}
 use Rattle.pd_machine.specs.Events.{Told}
 use Rattle.pd_suspend.specs.declared.stepper.Step.{Step}
 use Rattle.pd_suspend.specs.declared.stepper.Stepper.{Stepper}
-use Rattle.pd_suspend.specs.declared.suspension.Suspension.{Suspension}
-use Rattle.pd_suspend.specs.Steps.{Armed, step_of, stands_before, stands_after, ends_at}
-use Rattle.pd_suspend.specs.Stops.{is_over, step_left, step_in}
-use Rattle.pd_suspend.specs.Counters.{Counters, armed, is_counted, sees, moved, moved_by, idle, armed_by, sees_any, moved_any, stepper_of}
-use Rattle.pd_suspend.specs.Laws.{AreNumbered, IsStepping, NewIsIdle, SeesTheEnd, SeesOneMore, ArmsTheStep, StepsFollowStops}
+use Rattle.pd_suspend.specs.Steps.{step_of, stands_before, stands_after}
+use Rattle.pd_suspend.specs.Counters.{Counters, armed, sees, moved, moved_by, armed_by, sees_any, moved_any, stepper_of}
+use Rattle.pd_suspend.specs.Laws.{IsStepping, NewIsIdle, SeesTheEnd, SeesOneMore, ArmsTheStep, StepsFollowStops, OneMoreIsNumbered}
 use Rattle.pd_suspend.proofs.Stepping.{counters_see}
 use Rattle.pd_suspend.proofs.Stopping.{step_in-own, step_in-other}
 
@@ -80,3 +77,21 @@ steps_follow_stops = record {
   own = λ s stops x h. step_in-own s stops x (eq-eqb x.session s h);
   other = λ s stops x h. step_in-other s stops x (ne_eqb x.session s h);
 }
+
+-- ---- numbers
+
+range-more : (a n : ℕ) → range_with_len a (suc n) ≡ range_with_len a n ++ (a + n) ∷ []
+range-more a zero = ap (λ m. m ∷ []) (omega arith)
+range-more a (suc n) = ap (λ ns. a ∷ ns) (range-more (a + 1) n ∙ ap (λ m. range_with_len (a + 1) n ++ m ∷ []) (omega arith))
+
+pub one_more_is_numbered : OneMoreIsNumbered
+one_more_is_numbered events t numbered number =
+    let long : suc (length events) ≡ length (events ++ t ∷ []) = (let l = length-append events (t ∷ []) in omega (arith, l)) in
+    map-append (λ (t : Told). t.event.number) events (t ∷ [])
+    ∙ ap (λ ns. ns ++ t.event.number ∷ []) numbered
+    ∙ ap (λ m. range_with_len 0 (length events) ++ m ∷ []) (number ∙ zero-plus (length events))
+    ∙ sym (range-more 0 (length events))
+    ∙ ap (range_with_len 0) long
+  where
+    zero-plus : (n : ℕ) → n ≡ 0 + n
+    zero-plus n = omega arith

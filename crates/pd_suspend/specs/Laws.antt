@@ -1,18 +1,24 @@
 -- Definition: what holds of steps and steppers, as facts that contracts promise.
 use Rattle.std.specs.Prelude.{◌≡◌, ℕ, suc, ◌<◌, List, [], ◌∷◌, ◌++◌, map, length, drop, Option, Some, None}
 use Rattle.std.specs.List.{range_with_len}
-use Rattle.pd_plan.specs.declared.plan.Resume.{Resume}
+use Rattle.pd_plan.specs.declared.plan.Plan.{Plan}
+use Rattle.pd_plan.specs.Sound.{IsSound}
 use Rattle.pd_tree.specs.Program.{Program}
 use Rattle.pd_machine.specs.Events.{Told}
 use Rattle.pd_suspend.specs.declared.stepper.Stepper.{Stepper}
 use Rattle.pd_suspend.specs.declared.suspension.Suspension.{Suspension}
 use Rattle.pd_suspend.specs.Steps.{Armed, step_of, stands_before, stands_after, ends_at}
 use Rattle.pd_suspend.specs.Stops.{is_over, step_left, step_in}
+use Rattle.pd_suspend.specs.Answers.{scripted, IsLawful}
 use Rattle.pd_suspend.specs.Counters.{armed, sees, moved_by, idle, armed_by, sees_any, moved_any, stepper_of}
 
 -- the events have the numbers 0, 1, 2 ..
 abbrev pub AreNumbered : List Told → Type 0
 AreNumbered events = map (λ (t : Told). t.event.number) events ≡ range_with_len 0 (length events)
+
+-- and so they have with one more, whose number is how many there were
+abbrev pub OneMoreIsNumbered : Type 0
+OneMoreIsNumbered = (events : List Told) (t : Told) → AreNumbered events → t.event.number ≡ length events → AreNumbered (events ++ t ∷ [])
 
 -- where counters were armed at the event at which a step was left, and moved at each event since, they see exactly where it ends; `past` are
 -- the events before t
@@ -53,3 +59,9 @@ ArmsTheStep = (p : Program) (past : List Told) (t : Told) (x : Suspension)
 pub record StepsFollowStops : Type 0 where
   pub own : (s : ℕ) (stops : List Suspension) (x : Suspension) → x.session ≡ s → step_in s (stops ++ x ∷ []) ≡ step_left x
   pub other : (s : ℕ) (stops : List Suspension) (x : Suspension) → (x.session ≡ s → ⊥) → step_in s (stops ++ x ∷ []) ≡ step_in s stops
+
+-- ---- scripts
+
+-- each answer of a sound plan's scripts is lawful, also past the script
+abbrev pub ScriptsAreLawful : Type 0
+ScriptsAreLawful = (plan : Plan) → IsSound plan → (session k : ℕ) → IsLawful plan (scripted plan session k)

@@ -1,7 +1,7 @@
 //! Where a session is suspended and why, who answers, and where its step ends.
 #![tactic(auto)]
 
-ghost use Rattle.pd_suspend.specs.Laws.{CountersSee, NewIsIdle, SeesTheEnd, SeesOneMore, ArmsTheStep, StepsFollowStops};
+ghost use Rattle.pd_suspend.specs.Laws.{CountersSee, NewIsIdle, SeesTheEnd, SeesOneMore, ArmsTheStep, StepsFollowStops, OneMoreIsNumbered, ScriptsAreLawful};
 
 mod answerer;
 mod context;
@@ -24,4 +24,11 @@ pub fn stepping_law()
     ensures more { SeesOneMore }
     ensures arm { ArmsTheStep }
     ensures steps { StepsFollowStops }
+    ensures numbered { OneMoreIsNumbered }
+{}
+
+/// Acts of the answers of a sound plan's scripts are on bindings of the plan, of which only observers are switched on or
+/// off, and the numbers of their ways to go on are in range.
+pub fn script_law()
+    ensures { ScriptsAreLawful }
 {}

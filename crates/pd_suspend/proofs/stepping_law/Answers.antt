@@ -1,5 +1,5 @@
 use Rattle.pd_suspend.proofs.Stepping.{counters_see}
-use Rattle.pd_suspend.proofs.Following.{new_is_idle, sees_the_end, sees_one_more, arms_the_step, steps_follow_stops}
+use Rattle.pd_suspend.proofs.Following.{new_is_idle, sees_the_end, sees_one_more, arms_the_step, steps_follow_stops, one_more_is_numbered}
 use Rattle.pd_suspend.proofs.stepping_law.Goals as goal
 
 pub returns-clause-counters : goal.returns-clause-counters
@@ -19,3 +19,6 @@ returns-clause-arm c p past t x at = arms_the_step p past t x at
 
 pub returns-clause-steps : goal.returns-clause-steps
 returns-clause-steps c = steps_follow_stops
+
+pub returns-clause-numbered : goal.returns-clause-numbered
+returns-clause-numbered c events t numbered number = one_more_is_numbered events t numbered number
