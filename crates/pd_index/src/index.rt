@@ -24,8 +24,8 @@ pub struct NodeIndex {
 }
 
 impl NodeIndex {
-    /// The index of a program. It looks at each node a fixed number of times, and once at each line. The only error is
-    /// `AllocError`, where memory runs out.
+    /// The index of a program. Where the nodes stand in the order of the text, it takes time by their number `n`, else by
+    /// `n * log n`. The only error is `AllocError`, where memory runs out.
     pub fn build(alloc: Global, program: &Program) -> Result<NodeIndex, AllocError>
         ensures { IfOk result (IsIndexOf program.now) }
     {
