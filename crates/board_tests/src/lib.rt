@@ -5,3 +5,7 @@
 mod plain;
 #[cfg(test)]
 mod seats;
+#[cfg(test)]
+mod sessions;
+#[cfg(test)]
+mod watched;

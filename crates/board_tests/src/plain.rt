@@ -33,7 +33,7 @@ fn definitions()
 {}
 
 // One binding, whose row has node 3 of 8.
-fn one_binding(alloc: Global, always: bool) -> Result<MatchTable, AllocError>
+pub(crate) fn one_binding(alloc: Global, always: bool) -> Result<MatchTable, AllocError>
     ensures rows { IfOk result (λ t. t.rows ≡ (3 ∷ []) ∷ []) }
     ensures always { IfOk result (λ t. t.always ≡ always ∷ []) }
 {

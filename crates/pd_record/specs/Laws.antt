@@ -1,6 +1,6 @@
 -- Definition: what holds of a context's record while it grows, as facts that contracts promise: what each call of a board keeps, what each
 -- answer to a suspension keeps, and what stands at the end.
-use Rattle.std.specs.Prelude.{◌≡◌, ℕ, suc, ◌<◌, ◌≤◌, Bool, true, false, ◌==◌, ◌&&◌, nat_lt, List, [], ◌∷◌, ◌++◌, length, slice_index_or}
+use Rattle.std.specs.Prelude.{◌≡◌, ℕ, suc, ◌<◌, Bool, true, false, ◌&&◌, nat_lt, List, [], ◌∷◌, ◌++◌, length}
 use Rattle.std.specs.List.{list_all, filter_map}
 use Rattle.pd_tree.specs.Program.{Program, node_at, has_tag}
 use Rattle.pd_values.specs.declared.value.Tag.TheVariants.{AlwaysHalt}
@@ -14,7 +14,7 @@ use Rattle.pd_board.specs.declared.answers.Drawn.{Drawn}
 use Rattle.pd_board.specs.declared.answers.Known.{Known}
 use Rattle.pd_board.specs.declared.answers.Known.TheVariants.{Fresh, Attached, Disposed}
 use Rattle.pd_board.specs.declared.answers.Sight.{Sight}
-use Rattle.pd_board.specs.Answers.{is_attach, is_dispose}
+use Rattle.pd_board.specs.Answers.{is_attach}
 use Rattle.pd_board.specs.OnContext.{IsLifeOn}
 use Rattle.pd_board.specs.Standing.{Standing, in_row}
 use Rattle.pd_suspend.specs.declared.context.ContextRecord.{ContextRecord}

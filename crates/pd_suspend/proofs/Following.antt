@@ -1,20 +1,16 @@
 -- The stepper of a session: what it sees is where the step that the session's last suspension left ends.
-use Rattle.std.proofs.Common.{◌≡◌, ℕ, zero, suc, ◌+◌, ◌<◌, ◌≤◌, Bool, true, false, ◌==◌, List, [], ◌∷◌, ◌++◌, length, drop, refl, sym, ap, ◌∙◌, subst, arith, Option, Some, None}
-use Rattle.std.specs.Prelude.{if◌then◌else◌}
+use Rattle.std.proofs.Common.{◌≡◌, ℕ, zero, suc, ◌+◌, ◌≤◌, Bool, false, List, [], ◌∷◌, ◌++◌, length, drop, refl, sym, ap, ◌∙◌, subst, arith, Option, Some, None}
 use Rattle.std.specs.List.{range_with_len}
 use Rattle.std.proofs.lemmas.List.{length-append, map-append}
 use Rattle.std.proofs.lemmas.Bool.{eq-eqb, ne_eqb}
 use Rattle.std.specs.Option.{option_map}
-use Rattle.pd_plan.specs.declared.plan.Resume.{Resume}
 use Rattle.pd_tree.specs.Program.{Program}
 use Rattle.pd_machine.specs.Events.{Told}
 use Rattle.pd_suspend.specs.declared.stepper.Step.{Step}
 use Rattle.pd_suspend.specs.declared.stepper.Stepper.{Stepper}
-use Rattle.pd_suspend.specs.declared.suspension.Suspension.{Suspension}
-use Rattle.pd_suspend.specs.Steps.{Armed, step_of, stands_before, stands_after, ends_at}
-use Rattle.pd_suspend.specs.Stops.{is_over, step_left, step_in}
-use Rattle.pd_suspend.specs.Counters.{Counters, armed, is_counted, sees, moved, moved_by, idle, armed_by, sees_any, moved_any, stepper_of}
-use Rattle.pd_suspend.specs.Laws.{AreNumbered, IsStepping, NewIsIdle, SeesTheEnd, SeesOneMore, ArmsTheStep, StepsFollowStops, OneMoreIsNumbered}
+use Rattle.pd_suspend.specs.Steps.{step_of, stands_before, stands_after}
+use Rattle.pd_suspend.specs.Counters.{Counters, armed, sees, moved, moved_by, armed_by, sees_any, moved_any, stepper_of}
+use Rattle.pd_suspend.specs.Laws.{IsStepping, NewIsIdle, SeesTheEnd, SeesOneMore, ArmsTheStep, StepsFollowStops, OneMoreIsNumbered}
 use Rattle.pd_suspend.proofs.Stepping.{counters_see}
 use Rattle.pd_suspend.proofs.Stopping.{step_in-own, step_in-other}
 

@@ -10,7 +10,7 @@ use Rattle.pd_machine.specs.Events.{Told}
 use Rattle.pd_suspend.specs.Steps.{Armed, counts, wanted, stretch, least_depth, least_before, is_place, stands_before, stands_after}
 use Rattle.pd_suspend.specs.Counters.{Counters, armed, sees, moved, moved_by}
 use Rattle.std.specs.List.{range_with_len}
-use Rattle.pd_suspend.specs.Laws.{AreNumbered, CountersSee}
+use Rattle.pd_suspend.specs.Laws.{CountersSee}
 
 -- ---- numbers, one event after another
 

@@ -1,5 +1,5 @@
 -- The suspensions of a context, one event and one session after another.
-use Rattle.std.proofs.Common.{◌≡◌, ℕ, Bool, true, false, List, [], ◌∷◌, ◌++◌, length, refl, sym, ap, ◌∙◌, Option, Some, None, ◌==◌}
+use Rattle.std.proofs.Common.{◌≡◌, ℕ, true, false, List, [], ◌∷◌, ◌++◌, length, refl, sym, ap, ◌∙◌, Option, Some, None, ◌==◌}
 use Rattle.std.specs.Prelude.{slice_index_or, if◌then◌else◌}
 use Rattle.std.proofs.lemmas.Bool.{cond-true, cond-false}
 use Rattle.pd_suspend.specs.Steps.{Armed}
@@ -8,7 +8,7 @@ use Rattle.std.proofs.Math.Seq.{append_snoc}
 use Rattle.pd_machine.specs.Events.{Told}
 use Rattle.pd_suspend.specs.declared.suspension.Reason.{Reason}
 use Rattle.pd_suspend.specs.declared.suspension.Suspension.{Suspension}
-use Rattle.pd_suspend.specs.Stops.{Setting, Answered, went_on, answered_at, reasons_at, suspension, is_verdict, next_stop, stops_at, stops_after, stops_of, sessions_of, last_of, step_left, step_in}
+use Rattle.pd_suspend.specs.Stops.{Setting, Answered, went_on, answered_at, reasons_at, is_verdict, next_stop, stops_at, stops_after, stops_of, sessions_of, last_of, step_left, step_in}
 
 -- ---- one more event
 

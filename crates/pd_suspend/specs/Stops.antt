@@ -1,5 +1,5 @@
 -- Definition: the suspensions of a context: where a session is suspended, and why.
-use Rattle.std.specs.Prelude.{ℕ, suc, Bool, true, false, ◌==◌, ◌&&◌, if◌then◌else◌, List, [], ◌∷◌, ◌++◌, map, length, slice_index_or, is_some, Option, None, Some, unwrap_or}
+use Rattle.std.specs.Prelude.{ℕ, suc, Bool, false, ◌==◌, ◌&&◌, if◌then◌else◌, List, [], ◌∷◌, ◌++◌, map, length, slice_index_or, is_some, Option, None, Some, unwrap_or}
 use Rattle.std.specs.List.{filter_map, range_with_len}
 use Rattle.std.specs.Option.{option_map, option_to_list}
 use Rattle.pd_values.specs.declared.value.Value.{Value}

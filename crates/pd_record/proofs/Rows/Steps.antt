@@ -24,15 +24,13 @@ use Rattle.pd_plan.specs.declared.plan.BindingSpec.TheVariants.{Break}
 use Rattle.pd_plan.specs.declared.plan.Resume.TheVariants.{Into, Over, Out}
 use Rattle.pd_plan.specs.declared.plan.Plan.{Plan}
 use Rattle.pd_board.specs.declared.answers.Drawn.TheVariants.{On, Off}
-use Rattle.pd_board.specs.declared.answers.Dispose.TheVariants as disposes
-use Rattle.pd_board.specs.declared.answers.ActResult.TheVariants as acts
 use Rattle.pd_board.specs.declared.answers.Sight.{Sight}
 use Rattle.pd_suspend.specs.declared.suspension.Suspension.{Suspension}
 use Rattle.pd_suspend.specs.Stops.{Setting, Answered, stops_of, verdicts_of}
 use Rattle.pd_suspend.specs.Answers.{numbers_in}
 use Rattle.pd_record.specs.Logs.{answer_at, moments_of, log_of}
 use Rattle.pd_record.specs.Seen.{in_order, is_subject_at, is_due_pass}
-use Rattle.pd_record.specs.Replies.{Owed, of_hit, owed_of}
+use Rattle.pd_record.specs.Replies.{of_hit, owed_of}
 use Rattle.pd_record.proofs.Rows.Text.{brief, stops_text, log_text}
 
 abbrev nodes : List Node
