@@ -1,24 +1,15 @@
 -- Definition, which public contracts cite.
 -- A context that begins, and one that is over.
-use Rattle.std.specs.Prelude.{◌≡◌, ℕ, ◌≤◌, ◌<◌, ◌^◌, Bool, true, false, List, [], ◌++◌, length, slice_get, Option, None, Some}
+use Rattle.std.specs.Prelude.{◌≡◌, ℕ, ◌≤◌, ◌<◌, ◌^◌, Bool, true, false, List, [], ◌++◌, length, None}
 use Rattle.pd_tree.specs.Program.{Program}
-use Rattle.pd_plan.specs.declared.plan.ContextSpec.{ContextSpec}
 use Rattle.pd_plan.specs.declared.plan.Plan.{Plan}
 use Rattle.pd_filter.specs.Matching.{table_of}
+pub use Rattle.pd_record.specs.Record.{fuel_at}
 use Rattle.pd_board.specs.declared.answers.Known.TheVariants as knowns
 use Rattle.pd_board.specs.Standing.{Standing, NothingDue}
 use Rattle.pd_eval.specs.declared.running.Ran.{Ran}
 use Rattle.pd_suspend.specs.declared.context.ContextRecord.{ContextRecord}
 use Rattle.pd_guest.specs.declared.serving.Progress.{Progress}
-
--- the fuel of a context; 0 where there is none
-abbrev pub fuel_of : Option ContextSpec → ℕ
-fuel_of None = 0
-fuel_of (Some c) = c.fuel
-
--- the fuel of the plan's context with this number; 0 where there is none
-abbrev pub fuel_at : Plan → ℕ → ℕ
-fuel_at plan context = fuel_of (slice_get plan.contexts context)
 
 -- a board for a context of this plan: nothing of the context was done on it, and it has the room that a context may need
 pub record IsReadyFor (plan : Plan) (p : Program) (s : Standing) : Type 0 where
