@@ -1,4 +1,6 @@
 //! `pd_index`: its table is the one that `pd_filter` makes.
+ghost use Rattle.std.specs.Prelude.{◌<◌};
+
 use crate::fixtures::text;
 use crate::load::{loaded, plan};
 use pd_index::NodeIndex;
