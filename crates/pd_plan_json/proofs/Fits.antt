@@ -17,7 +17,7 @@ use Rattle.pd_plan.specs.Sound.{IsFrom, ListFits, Any, ContextFits, LinesFit, Fi
 use Rattle.pd_plan_json.specs.declared.bindings.Kind.{Kind}
 use Rattle.pd_plan_json.specs.declared.bindings.Kind.TheVariants as kinds
 use Rattle.pd_plan_json.specs.Reading.{Read, ◌>>=◌, ◌>>◌, refuse, refuse_if, under, member_step, entry_step}
-use Rattle.pd_plan_json.specs.Shapes.{present,  an_object, no_other, table_of, one_of, or_else, optional_as, outside, signed, signed_in, truth, items, whole, or_missing, if_there, number_in, reference, required, optional, with_default, list_in, entries, count, meaning}
+use Rattle.pd_plan_json.specs.Shapes.{present, an_object, no_other, table_of, one_of, or_else, optional_as, outside, signed, signed_in, truth, items, whole, or_missing, if_there, number_in, reference, required, optional, with_default, list_in, entries, count, meaning}
 use Rattle.pd_plan_json.specs.Tables.{name, tag, pair, condition, kind, context, context_members, lines, filter, filter_members, observer, observer_members, breakpoint, breakpoint_members, pause, pause_members, binding, binding_of, first_act, act, wait, wait_members, first_action, action, given, frame_and_value, returning, steps, first_step, stepping, resume, answer, answer_members, session, session_members, source, export, plan, plan_members}
 
 -- ---- what an answered chain has answered

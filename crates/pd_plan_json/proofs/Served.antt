@@ -1,13 +1,11 @@
 -- The plans that are read are sound, and ones that are served.
 use Rattle.std.proofs.Common.{◌≡◌, ℕ, ◌≤◌, List, [], ◌∷◌, length, Bool, true, false, Ok, codes, nat_lt, refl, arith}
-use Rattle.std.specs.Prelude.{⊤}
-use Rattle.std.specs.List.{AllByRecursion}
 use Rattle.std.proofs.lemmas.Bool.Decides.{nat_tests}
 use Rattle.pd_plan.specs.declared.refusal.PlanRule.TheVariants.{NotBuilt}
 use Rattle.pd_plan.specs.declared.plan.BindingSpec.TheVariants.{Observe, Break, Pause}
 use Rattle.pd_plan.specs.declared.plan.Plan.{Plan}
 use Rattle.pd_plan.specs.Sound.{ListFits, IsSound}
-use Rattle.pd_plan_json.specs.Reading.{Read, ◌>>◌, refuse_if, under, member_step}
+use Rattle.pd_plan_json.specs.Reading.{refuse_if, member_step}
 use Rattle.pd_plan_json.specs.References.{within, each}
 use Rattle.pd_plan_json.specs.Whole.{plan_at}
 use Rattle.pd_plan_json.specs.Served.{Observes, OnlyAttaches, IsServed, member_at_most, binding_served, session_served, served}
