@@ -1,4 +1,4 @@
-//! `pd_top`: a run whose writes fail, and a name that JSON must escape.
+//! `pd_top`: a run whose writes fail.
 use pd_outside::{MemoryLibrary, MemorySink, OpenGate};
 use pd_top::run;
 use std::alloc::{AllocError, Global};
@@ -60,44 +60,5 @@ fn failing_writes_are_answered(rt: HostRuntime) -> Result<(), Fail> {
         assert!(rt; pieces <= whole.len());
         assert_eq!(rt; part.as_slice(), &whole.as_slice()[..pieces]);
     }
-    Ok(())
-}
-
-/// A long name that begins with this.
-fn long_name(alloc: Global, first: &str) -> Result<String, AllocError> {
-    let mut name = String::from_str(alloc, first)?;
-    for _ in 0..249 {
-        name.push_str("n")?;
-    }
-    name.push_str(".sl")?;
-    Ok(name)
-}
-
-#[test]
-fn names_are_escaped_in_json(rt: HostRuntime) -> Result<(), Fail> {
-    let alloc = rt.alloc();
-    let name = long_name(alloc, "\"\\\u{7f}")?;
-    assert_eq!(rt; name.len(), 255);
-    // A quote and a backslash are escaped, and a delete character isn't.
-    let escaped = long_name(alloc, "\\\"\\\\\u{7f}")?;
-    let before = "{\"version\":1,\"sources\":[{\"name\":\"";
-    let behind = "\",\"language\":\"sl\"}],\"contexts\":[{\"source\":0}]}";
-    let plan = format!(in alloc; "{before}{}{behind}", escaped.as_str())?;
-    let source = "function main() { println(1 + 2); }";
-    let mut held = Vec::new(alloc);
-    held.push((
-        String::from_str(alloc, "p.json")?,
-        plan.as_bytes().to_vec(alloc)?,
-    ))?;
-    held.push((name, source.as_bytes().to_vec(alloc)?))?;
-    let mut files = MemoryLibrary::new(held, Vec::new(alloc));
-    let mut out = MemorySink::new(alloc, 20_000, Vec::new(alloc))?;
-    let words = strings(alloc, &["run", "--json", "p.json"])?;
-    let status = status(&rt, alloc, words.as_slice(), &mut files, &mut out);
-    assert_eq!(rt; status, 0);
-    let before = "{\"bindings\":[],\"contexts\":[{\"end\":\"done NULL\",\"entry\":\"main\",\"events\":14,\"fuel\":7,\"output\":\"3\\n\",\"source\":\"";
-    let behind = "\",\"stops\":[]}],\"sessions\":[]}\n";
-    let wanted = format!(in alloc; "{before}{}{behind}", escaped.as_str())?;
-    assert_eq!(rt; out.bytes(), wanted.as_bytes());
     Ok(())
 }
