@@ -1,6 +1,6 @@
 -- Definition, which public contracts cite.
 -- A context that begins, and one that is over.
-use Rattle.std.specs.Prelude.{◌≡◌, ℕ, ◌≤◌, ◌<◌, ◌^◌, Bool, true, false, List, [], ◌++◌, length, slice_get, Option, None, Some}
+use Rattle.std.specs.Prelude.{◌≡◌, ℕ, ◌≤◌, ◌<◌, ◌^◌, true, false, [], length, slice_get, Option, None, Some}
 use Rattle.pd_tree.specs.Program.{Program}
 use Rattle.pd_plan.specs.declared.plan.ContextSpec.{ContextSpec}
 use Rattle.pd_plan.specs.declared.plan.Plan.{Plan}
