@@ -1,18 +1,15 @@
 -- What is answered to a suspension, and done.
-use Rattle.std.proofs.Common.{◌≡◌, ℕ, zero, suc, ◌<◌, ◌+◌, Bool, true, false, List, [], ◌∷◌, ◌++◌, map, length, refl, sym, ap, ◌∙◌, subst, arith, inl, inr, Some, None, Option}
+use Rattle.std.proofs.Common.{◌≡◌, ℕ, zero, suc, ◌<◌, ◌+◌, Bool, true, List, [], ◌∷◌, ◌++◌, map, length, refl, sym, ap, ◌∙◌, subst, arith}
 use Rattle.std.specs.Prelude.{nat_lt, if◌then◌else◌, slice_get}
 use Rattle.std.specs.List.{AllByRecursion, list_all}
-use Rattle.std.proofs.lemmas.Bool.{and_from, cases_Bool, lt-ltb}
-use Rattle.std.proofs.lemmas.List.{get_or_past}
+use Rattle.std.proofs.lemmas.Bool.{and_from, lt-ltb}
 use Rattle.pd_tree.specs.Program.{Program}
 use Rattle.pd_machine.specs.Events.{Told}
-use Rattle.pd_values.specs.declared.value.Value.{Value}
 use Rattle.pd_values.specs.declared.value.Value.TheVariants as values
 use Rattle.pd_plan.specs.declared.plan.Act.{Act}
 use Rattle.pd_plan.specs.declared.plan.Act.TheVariants as acts
 use Rattle.pd_plan.specs.declared.plan.Answer.{Answer}
 use Rattle.pd_plan.specs.declared.plan.BindingSpec.{BindingSpec}
-use Rattle.pd_plan.specs.declared.plan.BindingSpec.TheVariants as specs
 use Rattle.pd_plan.specs.declared.plan.Resume.{Resume}
 use Rattle.pd_plan.specs.declared.plan.Resume.TheVariants as resumes
 use Rattle.pd_plan.specs.declared.plan.Plan.{Plan}

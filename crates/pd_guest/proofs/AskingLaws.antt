@@ -1,10 +1,10 @@
 -- The sessions of an event are asked, one after another.
-use Rattle.std.proofs.Common.{◌≡◌, ℕ, zero, suc, ◌<◌, ◌≤◌, ◌+◌, ◌-◌, ◌*◌, ◌^◌, Bool, true, false, ◌&&◌, ◌||◌, not, List, [], ◌∷◌, ◌++◌, map, length, take, drop, get_or, Option, None, Some, refl, sym, ap, ◌∙◌, subst, arith, ⊎_elim, get_or-set_same, get_or-set_other, length-set, length-drop}
-use Rattle.std.specs.Prelude.{◌==◌, nat_lt, if◌then◌else◌, slice_index_or, slice_set, filter}
-use Rattle.std.specs.List.{All, AllByRecursion, list_all, range_with_len, filter_map, cons_option}
+use Rattle.std.proofs.Common.{◌≡◌, ℕ, zero, suc, ◌<◌, ◌≤◌, ◌+◌, ◌-◌, ◌^◌, Bool, true, false, ◌&&◌, not, List, [], ◌∷◌, ◌++◌, map, length, take, drop, get_or, Option, None, Some, refl, sym, ap, ◌∙◌, subst, arith, ⊎_elim, get_or-set_same, get_or-set_other, length-set, length-drop}
+use Rattle.std.specs.Prelude.{◌==◌, nat_lt, if◌then◌else◌, slice_index_or, slice_set}
+use Rattle.std.specs.List.{All, AllByRecursion, list_all, range_with_len, cons_option}
 use Rattle.std.specs.Option.{option_map}
-use Rattle.std.proofs.lemmas.Bool.{and_parts, and_from, cases_Bool, cond-true, cond-false, ltb-true, lt-ltb, eqb-true, eqb-false, eq-eqb, ne_eqb, cases_lt}
-use Rattle.std.proofs.lemmas.List.{append-nil, append_assoc, map-append, length-append, get_or_default}
+use Rattle.std.proofs.lemmas.Bool.{and_parts, and_from, cases_Bool, cond-true, cond-false, lt-ltb, eqb-true, eqb-false, eq-eqb, ne_eqb, cases_lt}
+use Rattle.std.proofs.lemmas.List.{append-nil, map-append, length-append, get_or_default}
 use Rattle.std.proofs.lemmas.List.Elements.{recursion_from_All, filter-append, filter_map-append}
 use Rattle.std.proofs.Math.Seq.{take-append_seam, take-length}
 use Rattle.pd_tree.specs.Program.{Program}
@@ -20,8 +20,6 @@ use Rattle.pd_plan.specs.declared.plan.Plan.{Plan}
 use Rattle.pd_plan.specs.declared.plan.Resume.{Resume}
 use Rattle.pd_plan.specs.declared.plan.Resume.TheVariants as resumes
 use Rattle.pd_board.specs.declared.answers.ActResult.{ActResult}
-use Rattle.pd_board.specs.declared.answers.Drawn.{Drawn}
-use Rattle.pd_board.specs.declared.answers.Drawn.TheVariants.{Off}
 use Rattle.pd_board.specs.declared.answers.Sight.{Sight}
 use Rattle.pd_board.specs.Standing.{Standing}
 use Rattle.pd_suspend.specs.declared.stepper.Stepper.{Stepper}
@@ -30,7 +28,7 @@ use Rattle.pd_suspend.specs.declared.suspension.Suspension.{Suspension}
 use Rattle.pd_suspend.specs.Steps.{Armed, step_of, stands_before, stands_after}
 use Rattle.pd_suspend.specs.Counters.{idle, armed, armed_by, moved_by, moved_any, sees_any, stepper_of}
 use Rattle.pd_suspend.specs.Laws.{AreNumbered, IsStepping}
-use Rattle.pd_suspend.specs.Stops.{Answered, is_over, is_verdict, verdict_of, verdicts_of, step_in, step_left, sessions_of, suspension, answered_to, views_of, view_of}
+use Rattle.pd_suspend.specs.Stops.{is_over, is_verdict, verdict_of, verdicts_of, step_in, step_left, answered_to, views_of, view_of}
 use Rattle.pd_suspend.specs.Answers.{acts_of, numbers_in, stops_in}
 use Rattle.std.proofs.lemmas.List.{length-map}
 use Rattle.std.proofs.lemmas.List.FromFn.{length-range_with_len}
@@ -40,13 +38,10 @@ use Rattle.pd_record.specs.Logs.{is_of, answer_at}
 use Rattle.pd_record.specs.Life.{rises}
 use Rattle.pd_record.specs.Step.{is_below}
 use Rattle.pd_record.specs.Stopping.{IsStoppedTo, IsStoppingAt, reasons_by, stop_by}
-use Rattle.pd_record.specs.Turning.{is_earlier}
 use Rattle.pd_record.proofs.Lists.{list_all-weaker}
 use Rattle.pd_record.proofs.SeenLaws.{seen_below}
 use Rattle.pd_record.proofs.StoppingLaws.{stopping-begins, stopping-over, stopping-runs, stopping-stops, stopping-ends}
 use Rattle.pd_guest.specs.declared.reasons.Place.{Place}
-use Rattle.pd_guest.specs.declared.deliver.Deliveries.{Deliveries}
-use Rattle.pd_guest.specs.declared.serving.Opened.{Opened}
 use Rattle.pd_guest.specs.declared.serving.Progress.{Progress}
 use Rattle.pd_guest.specs.Moment.{At}
 use Rattle.pd_guest.specs.Delivering.{steady_of}

@@ -1,5 +1,5 @@
 -- What is kept before the first event, and at the end of a run.
-use Rattle.std.proofs.Common.{◌≡◌, ℕ, zero, suc, ◌<◌, ◌≤◌, ◌+◌, ◌*◌, ◌^◌, Bool, true, false, List, [], ◌∷◌, ◌++◌, map, length, refl, sym, ap, ◌∙◌, subst, arith, ⊎_elim}
+use Rattle.std.proofs.Common.{◌≡◌, ℕ, zero, suc, ◌<◌, ◌≤◌, ◌+◌, Bool, true, false, List, [], ◌++◌, map, length, refl, sym, ap, ◌∙◌, subst, arith, ⊎_elim}
 use Rattle.std.specs.Prelude.{slice_index_or, nat_lt, reverse}
 use Rattle.std.specs.List.{All, list_all, range_with_len}
 use Rattle.std.proofs.lemmas.Bool.{cases_lt}
@@ -10,7 +10,7 @@ use Rattle.pd_plan.specs.declared.plan.Plan.{Plan}
 use Rattle.pd_plan.specs.declared.plan.Answer.{Answer}
 use Rattle.pd_filter.specs.Matching.{row_of, table_of}
 use Rattle.pd_machine.specs.Events.{Told}
-use Rattle.pd_meaning.specs.Meaning.{Ran, meaning_of}
+use Rattle.pd_meaning.specs.Meaning.{meaning_of}
 use Rattle.pd_log.specs.declared.Entry.{Entry}
 use Rattle.pd_board.specs.declared.answers.ActResult.{ActResult}
 use Rattle.pd_board.specs.declared.answers.Known.{Known}
@@ -21,14 +21,13 @@ use Rattle.pd_eval.specs.declared.running.Ran.{Ran as Answered}
 use Rattle.pd_eval.specs.Watching.{IsRan}
 use Rattle.pd_suspend.specs.declared.suspension.Suspension.{Suspension}
 use Rattle.pd_suspend.specs.declared.context.ContextRecord.{ContextRecord}
-use Rattle.pd_suspend.specs.Counters.{idle}
 use Rattle.pd_suspend.specs.Laws.{AreNumbered}
 use Rattle.pd_suspend.specs.Stops.{verdicts_of, step_in, stops_of}
 use Rattle.pd_suspend.specs.Answers.{acts_of, numbers_in, as_handed}
 use Rattle.pd_record.specs.Life.{rises, numbers_of}
 use Rattle.pd_record.specs.Seen.{in_order, IsSeen, is_subject_at, enters_to, is_due_pass}
 use Rattle.pd_record.specs.Served.{IsServed}
-use Rattle.pd_record.specs.Serving.{IsCurrent, log_at}
+use Rattle.pd_record.specs.Serving.{log_at}
 use Rattle.pd_record.specs.Stopping.{IsStoppedTo}
 use Rattle.pd_record.specs.Record.{IsObserved, IsRunOf, IsStopped, IsRecord, IsReplied, setting_of}
 use Rattle.pd_record.proofs.ActsLaws.{in_order_none}

@@ -1,7 +1,7 @@
 -- A draw, and what it adds to the board's answers.
-use Rattle.std.proofs.Common.{◌≡◌, ℕ, ◌<◌, ◌≤◌, ◌+◌, Bool, true, false, ◌&&◌, ◌||◌, not, List, [], ◌∷◌, ◌++◌, length, Option, None, Some, ◌⊎◌, inl, inr, refl, sym, ap, ◌∙◌, subst, arith, length-set}
+use Rattle.std.proofs.Common.{◌≡◌, ℕ, ◌≤◌, Bool, true, false, ◌&&◌, ◌||◌, List, [], ◌∷◌, ◌++◌, length, Option, None, Some, ◌⊎◌, inl, inr, refl, sym, ap, ◌∙◌, subst, length-set}
 use Rattle.std.specs.Prelude.{IfSome, nat_le, map}
-use Rattle.std.specs.List.{All, AllByRecursion, list_all, list_any}
+use Rattle.std.specs.List.{AllByRecursion, list_all, list_any}
 use Rattle.std.specs.Option.{ForSome}
 use Rattle.std.proofs.lemmas.Bool.{and_from, le-leb}
 use Rattle.std.proofs.lemmas.List.Elements.{recursion_from_All, All-from_recursion}
@@ -16,10 +16,10 @@ use Rattle.pd_board.specs.declared.answers.Drawn.{Drawn}
 use Rattle.pd_board.specs.declared.answers.Drawn.TheVariants.{On, Missed, Off}
 use Rattle.pd_board.specs.Answers.{TogglesUpTo, number_of, toggle_count, is_gone, is_attach, has_attach}
 use Rattle.pd_board.specs.Standing.{Standing}
-use Rattle.pd_record.specs.Logs.{place_of, is_off, is_number}
+use Rattle.pd_record.specs.Logs.{is_off, is_number}
 use Rattle.pd_record.specs.Turning.{IsTurned}
 use Rattle.pd_record.specs.Acts.{fits_count, none_or, all_numbers, uses_up}
-use Rattle.pd_guest.specs.Delivering.{HasReplies, spent_by, with_entry}
+use Rattle.pd_guest.specs.Delivering.{HasReplies, with_entry}
 
 -- ---- the counts of switches
 

@@ -1,5 +1,5 @@
 -- One more observer is served at an end.
-use Rattle.std.proofs.Common.{◌≡◌, ℕ, ◌<◌, ◌≤◌, ◌+◌, ◌*◌, Bool, true, false, ◌&&◌, not, List, [], ◌∷◌, ◌++◌, length, get_or, drop, drop-cons, add-one, zero, suc, refl, sym, ap, ◌∙◌, subst, arith}
+use Rattle.std.proofs.Common.{◌≡◌, ℕ, ◌<◌, ◌≤◌, ◌+◌, Bool, true, false, ◌&&◌, not, List, [], ◌∷◌, ◌++◌, length, get_or, drop, drop-cons, add-one, zero, suc, refl, sym, ap, ◌∙◌, subst, arith}
 use Rattle.std.specs.Prelude.{nat_lt, ◌==◌}
 use Rattle.std.specs.List.{list_all}
 use Rattle.std.proofs.lemmas.Bool.{and_parts, and_right, or_right, ltb-true}
@@ -16,9 +16,9 @@ use Rattle.pd_record.proofs.Lists.{list_all-push}
 use Rattle.pd_record.proofs.ServingLaws.{serving-drawn, serving-passed, serving-along}
 use Rattle.pd_record.proofs.OnLaws.{ons-other, first_is_next, rest_is_left}
 use Rattle.pd_guest.specs.declared.deliver.Deliveries.{Deliveries}
-use Rattle.pd_guest.specs.Delivering.{IsDelivered, HasReplies, spent_by, with_entry}
+use Rattle.pd_guest.specs.Delivering.{spent_by, with_entry}
 use Rattle.pd_guest.specs.Moment.{At}
-use Rattle.pd_guest.specs.Finishing.{IsPassedBy, IsFinished, drawn, passed, IsFit, IsUsed, IsFinishing}
+use Rattle.pd_guest.specs.Finishing.{IsFinished, drawn, passed, IsFit, IsUsed, IsFinishing}
 use Rattle.pd_guest.proofs.DeliveringLaws.{length-with_entry, replies-grow, replies-same}
 use Rattle.pd_guest.proofs.OfferingLaws.{logged_entry, no_acts}
 

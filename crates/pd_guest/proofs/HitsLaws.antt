@@ -1,15 +1,12 @@
 -- The hits of an event are those of what was seen there.
-use Rattle.std.proofs.Common.{◌≡◌, ℕ, zero, suc, ◌+◌, ◌<◌, ◌≤◌, Bool, true, false, ◌&&◌, ◌||◌, List, [], ◌∷◌, ◌++◌, length, take, drop, get_or, Option, None, Some, refl, sym, ap, ◌∙◌, subst, arith, ⊎_elim}
-use Rattle.std.specs.Prelude.{◌==◌, nat_lt, nat_le, slice_get, if◌then◌else◌}
+use Rattle.std.proofs.Common.{◌≡◌, ℕ, zero, suc, ◌+◌, ◌<◌, ◌≤◌, Bool, true, false, ◌&&◌, ◌||◌, List, [], ◌∷◌, ◌++◌, length, take, drop, get_or, Option, None, Some, refl, sym, ap, ◌∙◌, arith, ⊎_elim}
+use Rattle.std.specs.Prelude.{◌==◌, nat_lt, nat_le, slice_get}
 use Rattle.std.specs.List.{list_all, filter_map, cons_option}
 use Rattle.std.specs.Option.{option_to_list}
-use Rattle.std.proofs.lemmas.Bool.{and_parts, and_from, cases_Bool, cond-true, cond-false, ltb-true, leb-true, le-leb, eqb-true, eqb-false, eq-eqb, ne_eqb}
+use Rattle.std.proofs.lemmas.Bool.{and_parts, and_from, cases_Bool, cond-true, cond-false, ltb-true, leb-true, le-leb, eqb-true, eqb-false, ne_eqb}
 use Rattle.std.proofs.lemmas.List.{take_more}
 use Rattle.std.proofs.lemmas.List.Elements.{filter_map-append}
-use Rattle.pd_tree.specs.Program.{Program, node_at, has_tag}
-use Rattle.pd_values.specs.declared.value.Tag.TheVariants.{AlwaysHalt}
 use Rattle.pd_machine.specs.Events.{Told}
-use Rattle.pd_plan.specs.declared.plan.Plan.{Plan}
 use Rattle.pd_plan.specs.declared.plan.BindingSpec.{BindingSpec}
 use Rattle.pd_board.specs.declared.answers.Drawn.{Drawn}
 use Rattle.pd_board.specs.declared.answers.Drawn.TheVariants.{Off}
@@ -18,9 +15,9 @@ use Rattle.pd_suspend.specs.declared.suspension.Reason.{Reason}
 use Rattle.pd_suspend.specs.declared.suspension.Reason.TheVariants.{Step, Halt}
 use Rattle.pd_suspend.specs.declared.suspension.Suspension.{Suspension}
 use Rattle.pd_suspend.specs.declared.stepper.Stepper.{Stepper}
-use Rattle.pd_suspend.specs.Steps.{is_enter, stands_before, stands_after}
+use Rattle.pd_suspend.specs.Steps.{stands_before, stands_after}
 use Rattle.pd_suspend.specs.Counters.{sees_any}
-use Rattle.pd_suspend.specs.Stops.{Setting, hit_by, hits_from, is_over, step_in, where_so, reasons_at}
+use Rattle.pd_suspend.specs.Stops.{Setting, hit_by, hits_from, is_over, step_in, where_so}
 use Rattle.pd_record.specs.Logs.{is_of, answer_at}
 use Rattle.pd_record.specs.Seen.{in_order, is_before}
 use Rattle.pd_record.specs.Stopping.{setting_with, reasons_by}

@@ -14,7 +14,6 @@ use Rattle.pd_order.specs.Order.{Fits, IsEndOf, open_after, open_with}
 use Rattle.pd_order.proofs.Lists.{open_push}
 use Rattle.pd_plan.specs.declared.plan.Plan.{Plan}
 use Rattle.pd_plan.specs.declared.table.MatchTable.{MatchTable}
-use Rattle.pd_filter.specs.Matching.{table_of}
 use Rattle.pd_board.specs.declared.answers.Known.{Known}
 use Rattle.pd_board.specs.declared.answers.Sight.{Sight}
 use Rattle.pd_board.specs.declared.answers.ActResult.{ActResult}
@@ -31,7 +30,6 @@ use Rattle.pd_record.proofs.SeenLaws.{seen_below, enters-more}
 use Rattle.pd_record.proofs.OnLaws.{ons-none, ons-rise, ons-below, ons-any, on_has_number}
 use Rattle.pd_guest.specs.declared.deliver.Deliveries.{Deliveries}
 use Rattle.pd_guest.specs.declared.serving.Opened.{Opened}
-use Rattle.pd_guest.specs.Delivering.{HasReplies, steady_of}
 use Rattle.pd_guest.specs.Moment.{At, is_observed, observers_at}
 use Rattle.pd_guest.specs.Offering.{left_from, left_for, IsAmple, IsSpent, IsOffering}
 use Rattle.pd_guest.specs.Finishing.{IsFit, IsUsed, IsFinishing}

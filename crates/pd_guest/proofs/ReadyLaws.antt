@@ -1,21 +1,13 @@
--- A board on which a context may begin, and answers that scripts give: for those who call `run_context`.
-use Rattle.std.proofs.Common.{◌≡◌, ℕ, zero, suc, ◌<◌, ◌≤◌, ◌^◌, List, [], ◌∷◌, map, length, refl, sym, ap, ◌∙◌, subst, arith}
-use Rattle.std.specs.Prelude.{slice_index_or}
-use Rattle.std.specs.List.{AllByRecursion}
+-- Boards on which a context may begin: for those who call `run_context`.
+use Rattle.std.proofs.Common.{◌≡◌, ℕ, List, length, sym, subst, arith}
 use Rattle.pd_tree.specs.Program.{Program}
-use Rattle.pd_plan.specs.declared.plan.Answer.{Answer}
-use Rattle.pd_plan.specs.declared.plan.BindingSpec.{BindingSpec}
 use Rattle.pd_plan.specs.declared.plan.Plan.{Plan}
-use Rattle.pd_plan.specs.declared.plan.Script.{Script}
-use Rattle.pd_plan.specs.Sound.{IsSound, AnswerFits, AnswerRefers, SessionFits, SessionRefers, ResumeFits}
+use Rattle.pd_plan.specs.Sound.{IsSound}
 use Rattle.pd_filter.specs.Matching.{table_of}
 use Rattle.pd_board.specs.declared.answers.ActResult.{ActResult}
 use Rattle.pd_board.specs.declared.answers.Known.{Known}
 use Rattle.pd_board.specs.Standing.{Standing, IsNew}
-use Rattle.pd_suspend.specs.Answers.{IsLawful, scripted, goes_on}
 use Rattle.pd_guest.specs.Beginning.{IsReadyFor}
-
--- ---- boards
 
 -- a new board
 pub ready-new : (plan : Plan) (p : Program) (s : Standing) → IsSound plan
@@ -71,23 +63,3 @@ ready-room plan p old new same r = subst (λ s. IsReadyFor plan p s) (sym same) 
 -- after an act
 pub ready-act : (plan : Plan) (p : Program) (old new : Standing) → new ≡ record old { replies = new.replies; known = new.known; spare = new.spare } → IsReadyFor plan p old → IsReadyFor plan p new
 ready-act plan p old new same r = subst (λ s. IsReadyFor plan p s) (sym same) (ready_else plan p old new.replies new.known new.spare r)
-
--- ---- scripts
-
-lawful_none : (plan : Plan) → IsLawful plan goes_on
-lawful_none plan = record { acts = tt; resume = tt }
-
-lawful_in : (plan : Plan) (answers : List Answer) (k : ℕ) → AllByRecursion AnswerFits answers → AllByRecursion (AnswerRefers plan.bindings) answers → IsLawful plan (slice_index_or answers k goes_on)
-lawful_in plan [] k fits refers = lawful_none plan
-lawful_in plan (a ∷ rest) zero fits refers = record { acts = refers.0; resume = fits.0.resume }
-lawful_in plan (a ∷ rest) (suc k) fits refers = lawful_in plan rest k fits.1 refers.1
-
-lawful_of : (plan : Plan) (sessions : List Script) (s k : ℕ) → AllByRecursion SessionFits sessions → AllByRecursion (SessionRefers plan.bindings) sessions
-    → IsLawful plan (slice_index_or (slice_index_or (map (λ (x : Script). x.answers) sessions) s []) k goes_on)
-lawful_of plan [] s k fits refers = lawful_none plan
-lawful_of plan (x ∷ rest) zero k fits refers = lawful_in plan x.answers k fits.0.answers.all refers.0.answers
-lawful_of plan (x ∷ rest) (suc s) k fits refers = lawful_of plan rest s k fits.1 refers.1
-
--- the answers of a sound plan's scripts are lawful
-pub scripts-lawful : (plan : Plan) → IsSound plan → (s k : ℕ) → IsLawful plan (scripted plan s k)
-scripts-lawful plan sound s k = lawful_of plan plan.sessions s k sound.fits.sessions.all sound.refers.sessions

@@ -1,7 +1,7 @@
 -- For the code's proofs: no public contract needs it.
 -- What a context keeps of its sessions, between its events and while it asks at one.
 use Rattle.std.specs.Prelude.{◌≡◌, ℕ, suc, ◌≤◌, ◌<◌, ◌+◌, ◌-◌, ◌*◌, ◌^◌, ◌==◌, ◌&&◌, Bool, true, false, nat_lt, if◌then◌else◌, List, [], ◌∷◌, ◌++◌, length, take, drop, map, slice_index_or, slice_set, Option, None, Some}
-use Rattle.std.specs.List.{All, list_all, range_with_len, filter_map}
+use Rattle.std.specs.List.{All, list_all, range_with_len}
 use Rattle.pd_tree.specs.Program.{Program}
 use Rattle.pd_machine.specs.Events.{Told}
 use Rattle.pd_machine.specs.declared.event.Verdict.{Verdict}
@@ -17,7 +17,6 @@ use Rattle.pd_suspend.specs.Steps.{is_enter, stands_before, stands_after}
 use Rattle.pd_plan.specs.declared.plan.Plan.{Plan}
 use Rattle.pd_plan.specs.declared.plan.Answer.{Answer}
 use Rattle.pd_board.specs.declared.answers.ActResult.{ActResult}
-use Rattle.pd_board.specs.declared.answers.Sight.{Sight}
 use Rattle.pd_board.specs.Standing.{Standing}
 use Rattle.pd_suspend.specs.declared.stepper.Stepper.{Stepper}
 use Rattle.pd_suspend.specs.declared.suspension.Reason.{Reason}

@@ -1,6 +1,6 @@
 -- Definition, which public contracts cite.
 -- A context that begins, and one that is over.
-use Rattle.std.specs.Prelude.{◌≡◌, ℕ, ◌≤◌, ◌<◌, ◌^◌, Bool, true, false, List, [], ◌++◌, length, None}
+use Rattle.std.specs.Prelude.{◌≡◌, ℕ, ◌≤◌, ◌<◌, ◌^◌, true, false, [], length, None}
 use Rattle.pd_tree.specs.Program.{Program}
 use Rattle.pd_plan.specs.declared.plan.Plan.{Plan}
 use Rattle.pd_filter.specs.Matching.{table_of}

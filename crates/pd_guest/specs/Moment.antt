@@ -1,14 +1,12 @@
 -- For the code's proofs: no public contract needs it.
 -- An event of a context, with what it is served by.
-use Rattle.std.specs.Prelude.{ℕ, Bool, ◌&&◌, List, [], map, filter, unwrap_or, Option, None, Some}
+use Rattle.std.specs.Prelude.{ℕ, Bool, List, [], Option, None, Some}
 use Rattle.pd_tree.specs.Program.{Program, node_at}
 use Rattle.pd_tree.specs.declared.kind.Visible.{Visible}
 use Rattle.pd_machine.specs.Events.{Scene, Told, frame_of}
 use Rattle.pd_machine.specs.declared.run.Frame.{Frame}
 use Rattle.pd_plan.specs.declared.plan.Plan.{Plan}
-use Rattle.pd_break.specs.Hits.{is_observer}
 use Rattle.pd_condition.specs.Truths.{truth_for, is_false}
-use Rattle.pd_board.specs.declared.answers.Sight.{Sight}
 use Rattle.pd_record.specs.Logs.{has_binding}
 pub use Rattle.pd_record.specs.Serving.{is_observed, observers_at}
 

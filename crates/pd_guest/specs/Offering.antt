@@ -2,7 +2,6 @@
 -- How the bindings that a load of a node held are served.
 use Rattle.std.specs.Prelude.{◌≡◌, ℕ, ◌≤◌, ◌<◌, ◌+◌, ◌*◌, ◌^◌, ◌==◌, ◌&&◌, Bool, true, false, not, nat_le, nat_lt, List, [], ◌∷◌, ◌++◌, length, if◌then◌else◌, Some}
 use Rattle.std.specs.List.{list_all}
-use Rattle.pd_plan.specs.declared.plan.Plan.{Plan}
 use Rattle.pd_filter.specs.Matching.{table_of}
 use Rattle.pd_machine.specs.Events.{Told}
 use Rattle.pd_board.specs.declared.answers.Known.{Known}

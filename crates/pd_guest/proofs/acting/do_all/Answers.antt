@@ -1,8 +1,5 @@
 -- One more act is done.
-use Rattle.std.proofs.Common.{◌≡◌, ℕ, List, [], ◌∷◌, ◌++◌, map, take, ◌+◌, get_or, sym, ap, ◌∙◌, subst}
-use Rattle.std.proofs.lemmas.List.{map-append, take_more}
-use Rattle.pd_plan.specs.declared.plan.Act.{Act}
-use Rattle.pd_board.specs.declared.answers.ActResult.{ActResult}
+use Rattle.std.proofs.Common.{map, sym, ap, ◌∙◌, subst}
 use Rattle.pd_board.specs.Standing.{Standing}
 use Rattle.pd_guest.specs.Delivering.{settled_of}
 use Rattle.pd_guest.specs.Replying.{act_of}

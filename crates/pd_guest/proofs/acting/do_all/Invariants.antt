@@ -1,5 +1,5 @@
 -- The acts before the index are done.
-use Rattle.std.proofs.Common.{◌≡◌, List, map, take}
+use Rattle.std.proofs.Common.{◌≡◌, map, take}
 use Rattle.pd_guest.specs.Delivering.{settled_of}
 use Rattle.pd_guest.specs.Replying.{act_of}
 use Rattle.pd_guest.specs.Acting.{AreActsDone}

@@ -1,7 +1,7 @@
 -- A binding was drawn, and was given the event or not.
-use Rattle.std.proofs.Common.{◌≡◌, ℕ, Some, true, false, sym, ap, ◌∙◌, subst}
+use Rattle.std.proofs.Common.{sym, ap, ◌∙◌, subst}
 use Rattle.std.specs.Prelude.{slice_get}
-use Rattle.pd_condition.specs.Truths.{is_false, truth_for}
+use Rattle.pd_condition.specs.Truths.{is_false}
 use Rattle.pd_board.specs.Standing.{Standing}
 use Rattle.pd_guest.specs.Moment.{At}
 use Rattle.pd_guest.specs.Delivering.{IsDelivered}

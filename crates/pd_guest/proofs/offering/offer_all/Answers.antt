@@ -3,7 +3,7 @@ use Rattle.std.proofs.Common.{ℕ, arith, ◌∙◌}
 use Rattle.pd_board.specs.Chain.{has}
 use Rattle.pd_board.specs.Standing.{Standing}
 use Rattle.pd_guest.proofs.OfferingLaws.{spent-more, offering-more, offering-all}
-use Rattle.pd_guest.proofs.GrowingLaws.{more-none, more-after, more-offered}
+use Rattle.pd_guest.proofs.GrowingLaws.{more-after, more-offered}
 use Rattle.pd_guest.proofs.offering.offer_all.Goals as goal
 
 pub chain-preserved : goal.chain-preserved

@@ -6,7 +6,6 @@ use Rattle.pd_board.specs.declared.answers.ActResult.{ActResult}
 use Rattle.pd_board.specs.Chain.{has}
 use Rattle.pd_machine.specs.Events.{Told}
 use Rattle.pd_suspend.specs.Steps.{is_enter}
-use Rattle.pd_guest.specs.Delivering.{steady_of}
 use Rattle.pd_guest.specs.Moment.{seen_at}
 use Rattle.pd_guest.specs.Offering.{IsSpent, IsOffering}
 use Rattle.pd_guest.specs.Growing.{IsMore}

@@ -1,6 +1,5 @@
 -- What is kept before the first event.
-use Rattle.std.proofs.Common.{◌≡◌, ℕ, ◌<◌, ◌≤◌, map, length, refl, sym, ap, ◌∙◌, subst, arith}
-use Rattle.std.specs.List.{range_with_len}
+use Rattle.std.proofs.Common.{◌<◌, ◌≤◌, length, refl, sym, ap, ◌∙◌, subst}
 use Rattle.pd_board.specs.Answers.{stage}
 use Rattle.pd_board.specs.Standing.{Standing, bindings}
 use Rattle.pd_guest.specs.Keeping.{start_of}

@@ -1,5 +1,5 @@
 -- What was kept is the record.
-use Rattle.std.proofs.Common.{rules, ◌≡◌, ℕ, List, [], length, sym, ap, ◌∙◌, subst, refl}
+use Rattle.std.proofs.Common.{rules, ℕ, List, length, ap, ◌∙◌, subst}
 use Rattle.std.specs.Prelude.{slice_index}
 use Rattle.pd_tree.specs.Program.{Program}
 use Rattle.pd_plan.specs.declared.plan.Plan.{Plan}

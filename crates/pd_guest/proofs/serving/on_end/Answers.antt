@@ -1,5 +1,5 @@
 -- An end is served, and all is kept.
-use Rattle.std.proofs.Common.{◌≡◌, ℕ, ◌<◌, ◌*◌, ◌^◌, List, length, Some, sym, ap, ◌∙◌, subst, arith, refl}
+use Rattle.std.proofs.Common.{◌≡◌, ℕ, ◌<◌, ◌*◌, ◌^◌, List, length, Some, sym, subst, arith}
 use Rattle.std.proofs.lemmas.List.Elements.{All-pop}
 use Rattle.pd_machine.specs.declared.event.Event.{Event}
 use Rattle.pd_machine.specs.Events.{Told}

@@ -1,6 +1,5 @@
 -- An event is served, and its sessions are asked.
-use Rattle.std.proofs.Common.{◌≡◌, ℕ, ◌+◌, ◌∷◌, [], ◌++◌, length, true, refl, sym, ap, ◌∙◌, subst, arith}
-use Rattle.pd_machine.specs.Events.{Told}
+use Rattle.std.proofs.Common.{◌∷◌, [], ◌++◌, true, refl, ap, ◌∙◌, subst, arith}
 use Rattle.pd_board.specs.Standing.{Standing}
 use Rattle.pd_guest.specs.declared.serving.Progress.{Progress}
 use Rattle.pd_guest.specs.Moment.{At}

@@ -1,9 +1,8 @@
 -- A session has no reason, or is asked.
-use Rattle.std.proofs.Common.{◌≡◌, ℕ, ◌<◌, ◌+◌, ◌++◌, ◌∷◌, [], true, List, length, drop, refl, sym, ap, ◌∙◌, subst, arith, ◌^◌}
+use Rattle.std.proofs.Common.{◌≡◌, refl, sym, ap, ◌∙◌, subst, arith}
 use Rattle.std.specs.Prelude.{slice_set}
 use Rattle.pd_board.specs.Standing.{Standing}
 use Rattle.pd_eval.specs.Watching.{keep}
-use Rattle.pd_suspend.specs.declared.stepper.Stepper.{Stepper}
 use Rattle.pd_suspend.specs.declared.suspension.Suspension.{Suspension}
 use Rattle.pd_suspend.specs.Counters.{moved_any}
 use Rattle.pd_suspend.specs.Stops.{verdicts_of}

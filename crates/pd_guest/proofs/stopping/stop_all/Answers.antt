@@ -1,9 +1,6 @@
 -- One more session had its turn.
-use Rattle.std.proofs.Common.{◌≡◌, ℕ, ◌<◌, length, sym, ap, ◌∙◌, subst, arith}
-use Rattle.pd_board.specs.Standing.{Standing}
+use Rattle.std.proofs.Common.{sym, ap, subst}
 use Rattle.pd_guest.specs.declared.serving.Progress.{Progress}
-use Rattle.pd_guest.specs.Moment.{At}
-use Rattle.pd_guest.specs.Asking.{IsAsking, is_go}
 use Rattle.pd_guest.specs.Replying.{IsGiven}
 use Rattle.pd_guest.proofs.stopping.stop_all.Goals as goal
 

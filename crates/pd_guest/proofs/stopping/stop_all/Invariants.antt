@@ -1,5 +1,5 @@
 -- The sessions below the number had their turns.
-use Rattle.std.proofs.Common.{◌≡◌, length}
+use Rattle.std.proofs.Common.{◌≡◌}
 use Rattle.pd_eval.specs.Watching.{GivesNoFunction, keep}
 use Rattle.pd_suspend.specs.Stops.{verdicts_of}
 use Rattle.pd_guest.specs.Delivering.{settled_of}

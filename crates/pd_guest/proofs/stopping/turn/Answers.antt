@@ -1,9 +1,7 @@
 -- A session is suspended, or passed over.
-use Rattle.std.proofs.Common.{◌≡◌, ℕ, ◌+◌, false, sym, ap, ◌∙◌, subst}
+use Rattle.std.proofs.Common.{◌≡◌, ◌+◌, false, sym, ap, ◌∙◌, subst}
 use Rattle.pd_board.specs.Standing.{Standing}
 use Rattle.pd_eval.specs.Watching.{keep}
-use Rattle.pd_guest.specs.declared.serving.Progress.{Progress}
-use Rattle.pd_guest.specs.Moment.{At}
 use Rattle.pd_guest.specs.Asking.{IsAsking, is_go}
 use Rattle.pd_guest.proofs.AskingLaws.{asking-passes, go-is}
 use Rattle.pd_guest.proofs.stopping.turn.Goals as goal

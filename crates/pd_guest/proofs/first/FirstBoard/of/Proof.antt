@@ -1,12 +1,12 @@
 -- `of` makes a value of no bytes, at what its clauses name.
 use mathlib.Core.Path.{refl}
-use mathlib.Core.List.{[], ◌∷◌, ◌++◌}
+use mathlib.Core.List.{[], ◌∷◌}
 use seplogic.Ra.Ura.{Ura}
 use mir.MapTy.{inst_fn}
 use mir.Syntax.{named, Dict, a_type, dcons, dnil}
 use denote.Param.{bounded}
 use mir.Val.{vptr, vstruct, vnil}
-use base.Logic.{SProp, emp, via, fst∗}
+use base.Logic.{SProp, via, fst∗}
 use prog.Memory.{Memory}
 use prog.Routine.{Routine}
 use prog.Wp.{Calls, Loops, WpFn, Tables}
@@ -23,7 +23,7 @@ use denote.RattleType.{owns, RattleType}
 use denote.Param.Laws.{Laws}
 use denote.Ref.{shr_vals, shr_Tells}
 use denote.Shadow.{pure_i}
-use denote.Signature.{plain, types_at, named_lft}
+use denote.Signature.{plain, types_at}
 use denote.Triple.Entry.{alive}
 use denote.Triple.Spec.{Meets, triple_of}
 use denote.Triple.Table.{entered}
