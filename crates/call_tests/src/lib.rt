@@ -2,13 +2,9 @@
 #![tactic(auto)]
 
 #[cfg(test)]
-mod breaks;
-#[cfg(test)]
 mod core_words;
 #[cfg(test)]
 mod fixtures;
-#[cfg(test)]
-mod index;
 #[cfg(test)]
 mod link;
 #[cfg(test)]
