@@ -11,7 +11,7 @@ use Rattle.pd_plan.specs.Sound.{IsFrom, ContextFits, ListFits}
 use Rattle.pd_plan_json.specs.Served.{Observes, OnlyAttaches, IsServed}
 use Rattle.pd_words.specs.Words.{IsFuel}
 use Rattle.pd_words.specs.Fuel.{context_with, with_fuel}
-use Rattle.pd_report.specs.Run.{is_observer, only_attaches, IsObserving}
+use Rattle.pd_single_report.specs.Run.{is_observer, only_attaches, IsObserving}
 use Rattle.pd_top.specs.Plans.{trace_plan}
 
 none_fit : {A : Type 0} (high : ℕ) (P : A → Type 0) → ListFits {A = A} 0 high P []

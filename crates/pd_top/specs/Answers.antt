@@ -16,11 +16,11 @@ use Rattle.pd_tree.specs.Program.{Program}
 use Rattle.pd_load.specs.declared.refusal.LoadRefusal.{LoadRefusal}
 use Rattle.pd_load.specs.declared.refusal.LoadCause.{LoadCause}
 use Rattle.pd_load.specs.declared.refusal.LoadCause.TheVariants.{Spelling, NoSuchItem, DoubledExport, NoSuchEntry, NotUtf8}
-use Rattle.pd_report.specs.declared.report.Report.{Report}
-use Rattle.pd_report.specs.Lines.{joined}
-use Rattle.pd_report.specs.Run.{IsRun}
-use Rattle.pd_report.specs.Transcript.{AreByPlace, text_of, check_line}
-use Rattle.pd_report.specs.Json.{json_of}
+use Rattle.pd_single_report.specs.declared.report.Report.{Report}
+use Rattle.pd_single_report.specs.Lines.{joined}
+use Rattle.pd_single_report.specs.Run.{IsRun}
+use Rattle.pd_single_report.specs.Transcript.{AreByPlace, text_of, check_line}
+use Rattle.pd_single_report.specs.Json.{json_of}
 use Rattle.pd_words.specs.declared.asked.Command.{Command}
 use Rattle.pd_words.specs.declared.asked.Command.TheVariants.{Trace, Run, Check}
 use Rattle.pd_words.specs.declared.asked.WordFault.{WordFault}

@@ -1,7 +1,7 @@
 //! The top call.
 ghost use Rattle.std.specs.Prelude.{◌≡◌, ◌≤◌, ◌<◌, ◌⊎◌, ℕ, true, false, Err, length, Ok, IfOk, IfErr, OnOk, OnErr};
 ghost use Rattle.pd_plan_json.specs.Served.{IsServed};
-ghost use Rattle.pd_report.specs.Run.{IsRun};
+ghost use Rattle.pd_single_report.specs.Run.{IsRun};
 ghost use Rattle.pd_words.specs.declared.asked.WordFault.{WordFault};
 ghost use Rattle.pd_words.specs.Words.{texts, command_of, HasFuelInRange};
 ghost use Rattle.pd_top.specs.Files.{IsGrown};
@@ -10,9 +10,9 @@ ghost use Rattle.pd_top.specs.Answers.{Reading, reading_of, writing_of, IsWritte
 
 use crate::accepting::{Accepted, accept};
 use crate::outcome::{Outcome, Unwritten};
-use pd_host::run_plan;
 use pd_outside::{Failed, Gate, Library, Sink};
-use pd_report::{Report, check_line, json_of, text_of};
+use pd_single_host::run_plan;
+use pd_single_report::{Report, check_line, json_of, text_of};
 use pd_values::{Stop, Text};
 use pd_words::{Command, WordFault, read_words};
 use std::alloc::{AllocError, Global};

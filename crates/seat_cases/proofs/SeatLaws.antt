@@ -18,8 +18,8 @@ use Rattle.pd_core.specs.Tokens.{Hub}
 use Rattle.pd_core.specs.Runs.{MaySplit}
 use Rattle.pd_core.specs.Views.{first_view}
 use Rattle.pd_observing.specs.Beginning.{is_observer, IsReadyFor}
-use Rattle.pd_host.specs.Attaching.{resting, HasRoom}
-use Rattle.pd_host.proofs.RunLaws.{rows_few}
+use Rattle.pd_single_host.specs.Attaching.{resting, HasRoom}
+use Rattle.pd_single_host.proofs.RunLaws.{rows_few}
 use Rattle.pd_shared.specs.Sitting.{Sitting, Base, standing_of}
 use Rattle.pd_shared.specs.Left.{HasHanded, IsNewcomer}
 use Rattle.seat_cases.specs.Seats.{HasForTwo, OnlyAttached}

@@ -6,7 +6,7 @@ use Rattle.pd_plan.specs.declared.plan.Plan.{Plan}
 use Rattle.pd_core.specs.Talks.{handed_answers}
 use Rattle.pd_core.specs.Views.{handed_share}
 use Rattle.pd_observing.specs.Beginning.{IsReadyFor}
-use Rattle.pd_host.specs.Attaching.{resting}
+use Rattle.pd_single_host.specs.Attaching.{resting}
 use Rattle.pd_shared.specs.Sitting.{Sitting, standing_of, base_of}
 
 -- the context of the plan may begin on the seat, also when a second seat was split off, and also on that one

@@ -3,7 +3,7 @@ use crate::seats::{SeatRun, Way};
 use pd_log::Entry;
 use pd_machine::{Cause, EventKind};
 use pd_observed::ContextRecord;
-use pd_report::{Report, SessionRecord};
+use pd_single_report::{Report, SessionRecord};
 use pd_values::{End, Items, Value};
 
 /// The name of the first part in which the run on a seat isn't as the report says; `None` where there is none.

@@ -14,9 +14,9 @@ ghost use Rattle.pd_plan_json.specs.Served.{IsServed};
 use crate::comparing::difference;
 use crate::reading::{Case, case_in};
 use crate::seats::{Way, run_on_seat};
-use pd_host::run_plan;
 use pd_outside::OpenGate;
-use pd_report::Report;
+use pd_single_host::run_plan;
+use pd_single_report::Report;
 use std::io::{self, BufRead, BufReader};
 
 /// Runs a case on a seat, and prints how that compares with the report of its run on a board of its own.

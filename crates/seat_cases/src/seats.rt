@@ -7,7 +7,7 @@ ghost use Rattle.pd_filter.specs.Matching.{table_of};
 ghost use Rattle.pd_board.specs.Standing.{IsNew, bindings};
 ghost use Rattle.pd_core.specs.Views.{first_view};
 ghost use Rattle.pd_observing.specs.Beginning.{IsReadyFor};
-ghost use Rattle.pd_host.specs.Attaching.{HasRoom};
+ghost use Rattle.pd_single_host.specs.Attaching.{HasRoom};
 ghost use Rattle.pd_shared.specs.Sitting.{IsOf, standing_of};
 ghost use Rattle.seat_cases.specs.Seats.{OnlyAttached};
 
@@ -17,8 +17,8 @@ use pd_observed::ContextRecord;
 use pd_observing::run_context;
 use pd_outside::OpenGate;
 use pd_plan::{Plan, Script};
-use pd_report::SessionRecord;
 use pd_shared::{Seat, SharedBoard, Sights, Tally, Token};
+use pd_single_report::SessionRecord;
 use pd_tree::Program;
 use pd_values::Items;
 use std::alloc::{AllocError, Global};

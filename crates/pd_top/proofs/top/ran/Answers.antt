@@ -1,4 +1,4 @@
-use Rattle.pd_report.proofs.RunLemmas.{by_place}
+use Rattle.pd_single_report.proofs.RunLemmas.{by_place}
 use Rattle.pd_top.proofs.PlanLemmas.{observing}
 use Rattle.pd_top.proofs.top.ran.Goals as goal
 

@@ -1,4 +1,4 @@
-use Rattle.pd_report.proofs.RunLemmas.{nodes_in}
+use Rattle.pd_single_report.proofs.RunLemmas.{nodes_in}
 use Rattle.pd_top.proofs.top.transcript.Goals as goal
 
 pub text_of-requires-clause-nodes : goal.text_of-requires-clause-nodes

@@ -1,7 +1,7 @@
 -- The list of one session more is attached.
 use Rattle.std.proofs.Common.{◌∙◌}
 use Rattle.pd_shared.specs.Sitting.{standing_of}
-use Rattle.pd_host.proofs.AttachingLaws.{keeps_room}
+use Rattle.pd_single_host.proofs.AttachingLaws.{keeps_room}
 use Rattle.seat_cases.proofs.seats.attach_all.Goals as goal
 
 pub attach_before-requires-clause-room : goal.attach_before-requires-clause-room

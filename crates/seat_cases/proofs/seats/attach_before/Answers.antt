@@ -1,6 +1,6 @@
 -- One binding more is attached.
 use Rattle.std.proofs.Common.{ap, ◌∙◌, arith}
-use Rattle.pd_host.specs.Attaching.{resting}
+use Rattle.pd_single_host.specs.Attaching.{resting}
 use Rattle.seat_cases.proofs.seats.attach_before.Goals as goal
 
 pub loop-b-preserved : goal.loop-b-preserved

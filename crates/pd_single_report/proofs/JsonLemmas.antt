@@ -1,0 +1,124 @@
+-- Values of numbered lists with one more, and that a report has no float.
+use Rattle.std.proofs.Common.{◌≡◌, ◌<◌, ◌∙◌, ℕ, suc, ◌+◌, Bool, true, false, List, [], ◌∷◌, ◌++◌, map, flat_map, length, take, slice_index_or, refl, sym, ap, add-zero, arith, Option, Some, None}
+use Rattle.std.specs.Prelude.{◌||◌, Vec}
+use Rattle.std.specs.declared.alloc.Global.{Global}
+use Rattle.std.proofs.lemmas.List.{take_more, length-take}
+use Rattle.serde_json.specs.Data.{Data, array}
+use Rattle.serde_json.specs.declared.value.Value.{Value}
+use Rattle.serde_json.specs.declared.value.Value.TheVariants.{Array}
+use Rattle.serde_json.specs.View.{view, items_of}
+use Rattle.serde_json.specs.Written.{has_float, items_have_float}
+use Rattle.serde_json.proofs.Views.{view-Array}
+use Rattle.pd_plan.specs.declared.plan.Plan.{Plan}
+use Rattle.pd_plan.specs.declared.plan.BindingSpec.{BindingSpec}
+use Rattle.pd_plan.specs.declared.plan.BindingSpec.TheVariants.{Observe, Break, Pause}
+use Rattle.pd_machine.specs.declared.event.EventKind.{EventKind}
+use Rattle.pd_machine.specs.declared.event.EventKind.TheVariants.{Enter, Return as Gave, Leave}
+use Rattle.pd_tree.specs.Program.{Program, item_names}
+use Rattle.pd_filter.specs.Resolving.{resolved}
+use Rattle.pd_log.specs.declared.Entry.{Entry}
+use Rattle.pd_board.specs.declared.answers.ActResult.{ActResult}
+use Rattle.pd_board.specs.declared.answers.ActResult.TheVariants as acts
+use Rattle.pd_board.specs.declared.answers.Tally.{Tally}
+use Rattle.pd_observed.specs.declared.ContextRecord.{ContextRecord}
+use Rattle.pd_single_report.specs.declared.report.SessionRecord.{SessionRecord}
+use Rattle.pd_single_report.specs.declared.report.Report.{Report}
+use Rattle.pd_single_report.specs.Json.{list_json, numbered_json, detail_json, entry_json, log_json, line_in, line_json, binding_json, context_json, before_json, session_json, report_json}
+
+-- the value behind these has the next number
+numbered-append : {A : Type 0} (value : ℕ → A → Data) (n : ℕ) (xs : List A) (x : A) → numbered_json value n (xs ++ x ∷ []) ≡ numbered_json value n xs ++ value (n + length xs) x ∷ []
+numbered-append value n [] x = ap (λ m. value m x ∷ []) (sym (add-zero n))
+numbered-append value n (y ∷ ys) x =
+    ap (λ t. value n y ∷ t) (numbered-append value (suc n) ys x ∙ ap (λ m. numbered_json value (suc n) ys ++ value m x ∷ []) (omega arith))
+
+-- the first of these, and then the next one
+pub numbered_more : {A : Type 0} (value : ℕ → A → Data) (xs : List A) (k : ℕ) (x : A) (now next : List Data) (d : Data)
+    → k < length xs → x ≡ slice_index_or xs k x → now ≡ numbered_json value 0 (take k xs) → next ≡ now ++ d ∷ [] → d ≡ value k x
+    → next ≡ numbered_json value 0 (take (k + 1) xs)
+numbered_more value xs k x now next d below is before added made =
+    let count : 0 + length (take k xs) ≡ k = grind (arith, below, length-take k xs) in
+    let step : numbered_json value 0 (take (k + 1) xs) ≡ numbered_json value 0 (take k xs) ++ value k x ∷ [] =
+    ap (numbered_json value 0) (take_more xs k x below ∙ ap (λ y. take k xs ++ y ∷ []) (sym is))
+    ∙ numbered-append value 0 (take k xs) x
+    ∙ ap (λ n. numbered_json value 0 (take k xs) ++ value n x ∷ []) count in
+    added ∙ ap (λ t. t ++ d ∷ []) before ∙ ap (λ e. numbered_json value 0 (take k xs) ++ e ∷ []) made ∙ sym step
+
+-- all of them
+pub numbered_all : {A : Type 0} (value : ℕ → A → Data) (xs ys : List A) (vs : Vec Value Global) → ys ≡ xs → map view vs.items ≡ numbered_json value 0 ys
+    → view (Array vs) ≡ list_json (numbered_json value 0 xs)
+numbered_all value xs ys vs same h = view-Array vs ∙ ap (λ ds. array (items_of ds)) (h ∙ ap (numbered_json value 0) same)
+
+-- ---- no floats
+
+abbrev HasNone : List Data → Type 0
+HasNone ds = items_have_float (items_of ds) ≡ false
+
+or_false : (a b : Bool) → a ≡ false → b ≡ false → (a || b) ≡ false
+or_false false b h g = g
+or_false true b h g = h
+
+left : (a b : Bool) → (a || b) ≡ false → a ≡ false
+left false b h = refl
+left true b h = h
+
+right : (a b : Bool) → (a || b) ≡ false → b ≡ false
+right false b h = h
+right true b h = absurd (cc)
+
+none_both : (ds es : List Data) → HasNone ds → HasNone es → HasNone (ds ++ es)
+none_both [] es h g = g
+none_both (d ∷ ds) es h g = or_false (has_float d) _ (left (has_float d) _ h) (none_both ds es (right (has_float d) _ h) g)
+
+none_numbered : {A : Type 0} (value : ℕ → A → Data) → ((n : ℕ) (x : A) → has_float (value n x) ≡ false) → (n : ℕ) (xs : List A) → HasNone (numbered_json value n xs)
+none_numbered value none n [] = refl
+none_numbered value none n (x ∷ xs) = or_false (has_float (value n x)) _ (none n x) (none_numbered value none (suc n) xs)
+
+detail_none : (names : List (List ℕ)) (kind : EventKind) → has_float (detail_json names kind) ≡ false
+detail_none names Enter = refl
+detail_none names (Gave v) = refl
+detail_none names (Leave c) = refl
+
+entry_none : (names : List (List ℕ)) (e : Entry) → has_float (entry_json names e) ≡ false
+entry_none names e = or_false (has_float (detail_json names e.kind)) false (detail_none names e.kind) refl
+
+entries_none : (names : List (List ℕ)) (es : List Entry) → HasNone (map (entry_json names) es)
+entries_none names [] = refl
+entries_none names (e ∷ es) = or_false (has_float (entry_json names e)) _ (entry_none names e) (entries_none names es)
+
+log_none : (names : List (List ℕ)) (binding : ℕ) (contexts : List ContextRecord) → HasNone (log_json names binding contexts)
+log_none names binding [] = refl
+log_none names binding (c ∷ cs) = none_both (map (entry_json names) (slice_index_or c.logs binding [])) (log_json names binding cs) (entries_none names (slice_index_or c.logs binding [])) (log_none names binding cs)
+
+line_in_none : (line : Option ℕ) → has_float (line_in line) ≡ false
+line_in_none None = refl
+line_in_none (Some n) = refl
+
+line_none : (p : Program) (spec : BindingSpec) → has_float (line_json p spec) ≡ false
+line_none p (Observe f) = refl
+line_none p (Break spec) = line_in_none (resolved p spec.source spec.line)
+line_none p (Pause s) = refl
+
+binding_none : (p : Program) (r : Report) (n : ℕ) (spec : BindingSpec) → has_float (binding_json p r n spec) ≡ false
+binding_none p r n spec =
+    or_false (has_float (line_json p spec)) _ (line_none p spec)
+    (or_false (has_float (list_json (log_json (item_names p) n r.contexts))) _ (log_none (item_names p) n r.contexts) refl)
+
+context_none : (plan : Plan) (p : Program) (n : ℕ) (c : ContextRecord) → has_float (context_json plan p n c) ≡ false
+context_none plan p n c = refl
+
+before_none : (results : List ActResult) → HasNone (flat_map before_json results)
+before_none [] = refl
+before_none (r ∷ rs) = none_both (before_json r) (flat_map before_json rs) (one r) (before_none rs)
+  where
+    one : (r : ActResult) → HasNone (before_json r)
+    one (acts.Attached b a) = refl
+    one _ = refl
+
+session_none : (tally : Tally) (n : ℕ) (s : SessionRecord) → has_float (session_json tally n s) ≡ false
+session_none tally n s = or_false (has_float (list_json (flat_map before_json s.before))) false (before_none s.before) refl
+
+pub report_none : (plan : Plan) (p : Program) (r : Report) → has_float (report_json plan p r) ≡ false
+report_none plan p r =
+    or_false (has_float (list_json (numbered_json (binding_json p r) 0 plan.bindings))) _ (none_numbered (binding_json p r) (binding_none p r) 0 plan.bindings)
+    (or_false (has_float (list_json (numbered_json (context_json plan p) 0 r.contexts))) _ (none_numbered (context_json plan p) (context_none plan p) 0 r.contexts)
+    (or_false (has_float (list_json (numbered_json (session_json r.tally) 0 r.sessions))) false (none_numbered (session_json r.tally) (session_none r.tally) 0 r.sessions) refl))

@@ -1,0 +1,15 @@
+use Rattle.std.proofs.Common.{map, take}
+use Rattle.std.proofs.lemmas.List.{take_all}
+use Rattle.serde_json.specs.View.{view}
+use Rattle.pd_single_report.specs.Json.{context_json}
+use Rattle.pd_single_report.proofs.JsonLemmas.{numbered_more, numbered_all}
+use Rattle.pd_single_report.proofs.json.contexts_value.Goals as goal
+
+pub loop-number-preserved : goal.loop-number-preserved
+loop-number-preserved c =
+    let next = c.index-contexts-number in
+    numbered_more (context_json c.args.plan.now c.args.program.now) c.args.contexts.now c.loop-number.number next.result (map view c.loop-number.values.items) (map view c.push.new.values.items)
+    (view c.in_ok-context_value.field-0) c.loop-number-test.true next.is c.loop-number.invariant c.in_ok-push.ensures c.in_ok-context_value.ensures
+
+pub returns : goal.returns
+returns c = numbered_all (context_json c.args.plan.now c.args.program.now) c.args.contexts.now (take c.loop-number.number c.args.contexts.now) c.loop-number.values (take_all c.loop-number.number c.args.contexts.now c.loop-number-test.false) c.loop-number.invariant

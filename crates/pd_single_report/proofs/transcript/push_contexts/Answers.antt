@@ -1,0 +1,10 @@
+use Rattle.std.proofs.Common.{string_bytes}
+use Rattle.pd_single_report.specs.Transcript.{context_text}
+use Rattle.pd_single_report.proofs.NumberedLemmas.{numbered_more}
+use Rattle.pd_single_report.proofs.transcript.push_contexts.Goals as goal
+
+pub loop-number-preserved : goal.loop-number-preserved
+loop-number-preserved c =
+    let next = c.index-contexts-number in
+    numbered_more (context_text c.args.plan.now c.args.program.now) c.args.contexts.now c.loop-number.number next.result (string_bytes c.args.text.now) (string_bytes c.loop-number.text)
+    (string_bytes c.push_context.new.text) c.loop-number-test.true next.is c.loop-number.invariant c.in_ok-push_context.ensures
