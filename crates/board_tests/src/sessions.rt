@@ -249,8 +249,8 @@ fn check_before<B: Board>(
     ];
     assert_eq!(rt; before.as_slice(), wanted.as_slice());
     Ok(SessionRecord {
-        before,
-        actions: Vec::new(alloc),
+        before: Items::of(before),
+        actions: Items::of(Vec::new(alloc)),
     })
 }
 
@@ -259,7 +259,11 @@ fn bindings_attached_before_the_run(rt: HostRuntime) -> Result<(), Fail> {
     let alloc = rt.alloc();
     let mut board = plain_board(alloc)?;
     let record = check_before(&rt, alloc, &mut board)?;
-    assert_eq!(rt; (record.before.len(), record.actions.len()), (2, 0));
+    let counts = (
+        record.before.as_slice().len(),
+        record.actions.as_slice().len(),
+    );
+    assert_eq!(rt; counts, (2, 0));
     Ok(())
 }
 

@@ -1,5 +1,5 @@
 -- Values of numbered lists with one more, and that a report has no float.
-use Rattle.std.proofs.Common.{◌≡◌, ◌<◌, ◌∙◌, ℕ, suc, ◌+◌, Bool, true, false, List, [], ◌∷◌, ◌++◌, map, flat_map, length, take, slice_index_or, refl, sym, ap, add-zero, arith, Option, Some, None}
+use Rattle.std.proofs.Common.{◌≡◌, ◌<◌, ◌∙◌, ℕ, suc, ◌+◌, Bool, true, false, List, [], ◌∷◌, ◌++◌, map, flat_map, length, take, slice_index_or, refl, sym, ap, add-zero, arith}
 use Rattle.std.specs.Prelude.{◌||◌, Vec}
 use Rattle.std.specs.declared.alloc.Global.{Global}
 use Rattle.std.proofs.lemmas.List.{take_more, length-take}
@@ -15,7 +15,9 @@ use Rattle.pd_plan.specs.declared.plan.BindingSpec.TheVariants.{Observe, Break, 
 use Rattle.pd_machine.specs.declared.event.EventKind.{EventKind}
 use Rattle.pd_machine.specs.declared.event.EventKind.TheVariants.{Enter, Return as Gave, Leave}
 use Rattle.pd_tree.specs.Program.{Program, item_names}
-use Rattle.pd_filter.specs.Resolving.{resolved}
+use Rattle.pd_break.specs.declared.resolving.Resolved.{Resolved}
+use Rattle.pd_break.specs.declared.resolving.Resolved.TheVariants.{Line, Unresolved}
+use Rattle.pd_break.specs.Resolving.{resolved}
 use Rattle.pd_log.specs.declared.Entry.{Entry}
 use Rattle.pd_board.specs.declared.answers.ActResult.{ActResult}
 use Rattle.pd_board.specs.declared.answers.ActResult.TheVariants as acts
@@ -89,9 +91,9 @@ log_none : (names : List (List ℕ)) (binding : ℕ) (contexts : List ContextRec
 log_none names binding [] = refl
 log_none names binding (c ∷ cs) = none_both (map (entry_json names) (slice_index_or c.logs binding [])) (log_json names binding cs) (entries_none names (slice_index_or c.logs binding [])) (log_none names binding cs)
 
-line_in_none : (line : Option ℕ) → has_float (line_in line) ≡ false
-line_in_none None = refl
-line_in_none (Some n) = refl
+line_in_none : (line : Resolved) → has_float (line_in line) ≡ false
+line_in_none Unresolved = refl
+line_in_none (Line n) = refl
 
 line_none : (p : Program) (spec : BindingSpec) → has_float (line_json p spec) ≡ false
 line_none p (Observe f) = refl

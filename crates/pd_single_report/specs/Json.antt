@@ -11,7 +11,9 @@ use Rattle.pd_plan.specs.declared.plan.ContextSpec.{ContextSpec}
 use Rattle.pd_plan.specs.declared.plan.BindingSpec.{BindingSpec}
 use Rattle.pd_plan.specs.declared.plan.BindingSpec.TheVariants.{Observe, Break, Pause}
 use Rattle.pd_plan.specs.declared.plan.Plan.{Plan}
-use Rattle.pd_filter.specs.Resolving.{resolved}
+use Rattle.pd_break.specs.declared.resolving.Resolved.{Resolved}
+use Rattle.pd_break.specs.declared.resolving.Resolved.TheVariants.{Line, Unresolved}
+use Rattle.pd_break.specs.Resolving.{resolved}
 use Rattle.pd_log.specs.declared.Entry.{Entry}
 use Rattle.pd_board.specs.declared.answers.ActResult.{ActResult}
 use Rattle.pd_board.specs.declared.answers.ActResult.TheVariants as acts
@@ -69,9 +71,9 @@ kind_word (Observe filter) = codes "observe"
 kind_word (Break spec) = codes "break"
 kind_word (Pause session) = codes "pause"
 
-abbrev pub line_in : Option ℕ → Data
-line_in None = null
-line_in (Some line) = count_json line
+abbrev pub line_in : Resolved → Data
+line_in Unresolved = null
+line_in (Line line) = count_json line
 
 -- the line on which a breakpoint stops
 abbrev pub line_json : Program → BindingSpec → Data
