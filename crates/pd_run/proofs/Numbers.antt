@@ -6,7 +6,7 @@ use Rattle.std.proofs.lemmas.List.Elements.{recursion_from_All, All-weaker, All-
 use Rattle.std.proofs.lemmas.List.Folds.{flat_map-map}
 use Rattle.std.proofs.lemmas.List.Concat.{flat_map-append}
 use Rattle.pd_core.specs.Layout.{bindings}
-use Rattle.pd_record.specs.Life.{rises}
+use Rattle.pd_board.specs.OnContext.{rises}
 use Rattle.pd_run.specs.Hands.{ContextHand, ScriptHand, IsContext, IsScript}
 use Rattle.pd_seats.specs.Back.{numbers_for}
 use Rattle.pd_run.specs.Laws.{tokens_of, AnswersAreTold}

@@ -19,14 +19,15 @@ use Rattle.pd_suspend.specs.declared.suspension.Suspension.{Suspension}
 use Rattle.pd_suspend.specs.declared.context.ContextRecord.{ContextRecord}
 use Rattle.pd_suspend.specs.Answers.{acts_of, numbers_in}
 use Rattle.pd_record.specs.Acts.{uses_up}
-use Rattle.pd_record.specs.Logs.{moments_of, answers_of, subject_events, answer_at, is_subject}
-use Rattle.pd_record.specs.Life.{rises, numbers_of, is_window, off_then_numbers, numbers_then_off}
+use Rattle.pd_record.specs.Logs.{moments_of, is_subject}
+use Rattle.pd_record.proofs.WholeLaws.{life-on}
+use Rattle.pd_board.specs.OnContext.{rises}
 use Rattle.pd_record.specs.Seen.{is_subject_at}
 use Rattle.pd_record.specs.Served.{IsServed}
 use Rattle.pd_record.specs.Replies.{Owed, of_act, of_hit, used_up_by, owed_at, owed_of, AreFor}
 use Rattle.pd_shared.specs.Book.{known_at}
 use Rattle.pd_shared.specs.Sitting.{Sitting, standing_of}
-use Rattle.pd_run.specs.Part.{answers, is_spent, IsActedOn, IsLifeOn, part_of}
+use Rattle.pd_run.specs.Part.{is_spent, HasLife, part_of}
 use Rattle.pd_run.specs.Hands.{Deed, act_of, is_end, is_rightful, is_ended}
 use Rattle.pd_run.specs.Record.{owed_told, deeds_for, RecordsAreHands}
 
@@ -250,31 +251,12 @@ module _ (plan : Plan) (seen : List Sight) (stops : List Suspension) where
 
 -- ---- the life of one binding
 
-answers_same : (plan : Plan) (p : Program) (seen : List Sight) (events : List Told) (b : ℕ) → answers_of plan p seen events b ≡ answers (moments_of plan p seen events b)
-answers_same plan p seen events b = sym (map_twice (λ x. x.1) (λ t. (t.event.number, answer_at seen t.event.number b)) (subject_events plan p seen events b))
-
 life_of : (plan : Plan) (p : Program) (context : ℕ) (events : List Told) (start : Standing) (s : Sitting) (r : ContextRecord) (b : ℕ) → r.seen ≡ s.token.journal.sights
     → (log : List _) → IsServed plan p context (start.known b) (standing_of s) log events (acts_of r.stops) b
-    → IsLifeOn plan b (start.known b ≡ knowns.Attached) (known_at s.token.known.items b ≡ knowns.Disposed) (part_of plan p events r)
+    → HasLife plan b (start.known b ≡ knowns.Attached) (known_at s.token.known.items b ≡ knowns.Disposed) (part_of plan p events r)
 life_of plan p context events start s r b seen log h =
-    let same : answers (moments_of plan p r.seen events b) ≡ answers_of plan p s.token.journal.sights events b = ap (λ xs. answers (moments_of plan p xs events b)) seen ∙ sym (answers_same plan p s.token.journal.sights events b) in
-    record {
-      window = ap is_window same ∙ h.life.window;
-      rising = ap (λ xs. rises (numbers_of xs b)) seen ∙ h.rising;
-      lives = λ no. ap off_then_numbers same ∙ h.life.lives no;
-      before = λ x. ap numbers_then_off same ∙ h.life.attached x;
-      before_lives = λ x no. ap (list_all _) same ∙ h.life.attached_lives x no;
-      acted = subst (λ xs. IsActedOn plan b (known_at s.token.known.items b ≡ knowns.Disposed) (moments_of plan p xs events b) (acts_of r.stops)) (sym seen) (record {
-        attached = h.acted.attached;
-        attached_lives = h.acted.attached_lives;
-        first = h.acted.first;
-        disposed = h.acted.disposed;
-        used_up = h.acted.used_up;
-        used_up_once = h.acted.used_up_once;
-        counted = h.acted.counted;
-        uncounted = h.acted.uncounted;
-      });
-    }
+    subst (λ xs. HasLife plan b (start.known b ≡ knowns.Attached) (known_at s.token.known.items b ≡ knowns.Disposed) (record { seen = xs; given = moments_of plan p xs events; acts = acts_of r.stops })) (sym seen)
+    (life-on plan p context (start.known b) (standing_of s) log events (acts_of r.stops) b h)
 
 pub records_are_hands : RecordsAreHands
 records_are_hands plan p context events start s r o q a by none no_numbers =

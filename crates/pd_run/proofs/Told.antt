@@ -32,7 +32,7 @@ use Rattle.pd_shared.specs.declared.token.Token.{Token}
 use Rattle.pd_shared.specs.Book.{known_at}
 use Rattle.pd_board.specs.Order.{has_gone, says_gone, IsInOrder, is_first, disables_from, enables_from, HasCause}
 use Rattle.pd_shared.specs.Closed.{OfEachSeat, FitsTally, IsOutcomeOfAll, all_sights, all_replies}
-use Rattle.pd_run.specs.Part.{Part, replies_of, is_spent, IsActedOn, IsLifeOn}
+use Rattle.pd_run.specs.Part.{Part, replies_of, is_spent, HasLife}
 use Rattle.pd_plan.specs.declared.plan.Plan.{Plan}
 use Rattle.pd_record.specs.Acts.{uses_up}
 use Rattle.pd_run.specs.Life.{Whole, seen_in, recorded, IsGone, IsLife}
@@ -248,26 +248,25 @@ below_one x n k h e = grind (arith, nat_tests)
 
 -- ---- one context
 
-acted_weaker : (plan : Plan) (b : ℕ) (known gone : Type 0) → (known → gone) → (given : List (ℕ × Drawn)) (did : List (ℕ × ActResult)) → IsActedOn plan b known given did → IsActedOn plan b gone given did
-acted_weaker plan b known gone f given did h = record {
-  attached = h.attached;
-  attached_lives = λ no. h.attached_lives (λ k. no (f k));
-  first = h.first;
-  disposed = h.disposed;
-  used_up = h.used_up;
-  used_up_once = h.used_up_once;
-  counted = h.counted;
-  uncounted = h.uncounted;
-}
-
-pub life_weaker : (plan : Plan) (b : ℕ) (began attached known gone : Type 0) → (attached → began) → (known → gone) → (c : Part) → IsLifeOn plan b began known c → IsLifeOn plan b attached gone c
+pub life_weaker : (plan : Plan) (b : ℕ) (began attached known gone : Type 0) → (attached → began) → (known → gone) → (c : Part) → HasLife plan b began known c → HasLife plan b attached gone c
 life_weaker plan b began attached known gone a f c h = record {
-  window = h.window;
+  given = record {
+    window = h.given.window;
+    lives = λ no. h.given.lives (λ k. no (f k));
+    before = λ x. h.given.before (a x);
+    before_lives = λ x no. h.given.before_lives (a x) (λ k. no (f k));
+  };
+  acted = record {
+    attached = h.acted.attached;
+    attached_lives = λ no. h.acted.attached_lives (λ k. no (f k));
+    first = h.acted.first;
+    disposed = h.acted.disposed;
+    used_up = h.acted.used_up;
+    used_up_once = h.acted.used_up_once;
+    counted = h.acted.counted;
+    uncounted = h.acted.uncounted;
+  };
   rising = h.rising;
-  lives = λ no. h.lives (λ k. no (f k));
-  before = λ x. h.before (a x);
-  before_lives = λ x no. h.before_lives (a x) (λ k. no (f k));
-  acted = acted_weaker plan b known gone f (c.given b) c.acts h.acted;
 }
 
 -- ---- the state
@@ -391,10 +390,10 @@ module _ (p : Layout) (plan : Plan) (start : ℕ → Known) (first now : Token) 
     contexts_known : All (λ h. (c : ℕ) → known_at h.token.known.items c ≡ knowns.Disposed → known_at now.known.items c ≡ knowns.Disposed) contexts
     contexts_known = all_unmap (λ x. (c : ℕ) → known_at x.known.items c ≡ knowns.Disposed → known_at now.known.items c ≡ knowns.Disposed) (λ y. y.token) contexts (all_parts (λ x. (c : ℕ) → known_at x.known.items c ≡ knowns.Disposed → known_at now.known.items c ≡ knowns.Disposed) (map (λ y. y.token) contexts) (map (λ y. y.token) scripts) o.gathered.known).0
 
-    lives_on : All (IsLifeOn plan b (has_attach b w.before ≡ true) (IsGone t)) w.contexts
+    lives_on : All (HasLife plan b (has_attach b w.before ≡ true) (IsGone t)) w.contexts
     lives_on =
-        All-map (IsLifeOn plan b (has_attach b w.before ≡ true) (IsGone t)) (λ y. y.part) contexts
-        (all_both (IsContext (bindings p) plan start) (λ h. (c : ℕ) → known_at h.token.known.items c ≡ knowns.Disposed → known_at now.known.items c ≡ knowns.Disposed) (λ y. IsLifeOn plan b (has_attach b w.before ≡ true) (IsGone t) y.part)
+        All-map (HasLife plan b (has_attach b w.before ≡ true) (IsGone t)) (λ y. y.part) contexts
+        (all_both (IsContext (bindings p) plan start) (λ h. (c : ℕ) → known_at h.token.known.items c ≡ knowns.Disposed → known_at now.known.items c ≡ knowns.Disposed) (λ y. HasLife plan b (has_attach b w.before ≡ true) (IsGone t) y.part)
         (λ y g k. life_weaker plan b (start b ≡ knowns.Attached) (has_attach b w.before ≡ true) (known_at y.token.known.items b ≡ knowns.Disposed) (IsGone t) (o.before.known b) (λ e. o.closed.known_gone b lt (k b e)) y.part (g.lives b lt))
         contexts o.contexts_are contexts_known)
 
@@ -418,7 +417,7 @@ module _ (p : Layout) (plan : Plan) (start : ℕ → Known) (first now : Token) 
 
     -- up to any number: one that was taken is a place or missed, and from the count on all toggles count
     toggles_all : (n : ℕ) → (off : Bool) × IsMissed b n off (all ds)
-    toggles_all n = ⊎_elim (λ below. number_fits b n (all ds) (seen_in w) outcome.toggled ((below_one n t.count (count_by (λ y. y == n) (numbers_of b (seen_in w))) below (outcome.numbers n)))) (λ above. outcome.toggles n above) (cases_lt n t.count)
+    toggles_all n = ⊎_elim (λ below. number_fits b n (all ds) (seen_in w) outcome.toggled ((below_one n t.count (count_by (λ y. y == n) (numbers_of b (seen_in w))) below (outcome.numbers n)))) (λ above. (outcome.toggles.0, outcome.toggles.1 n above)) (cases_lt n t.count)
 
     pub life : IsLife plan b w t
     life = record {

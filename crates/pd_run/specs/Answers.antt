@@ -2,7 +2,7 @@
 -- The answers of a session over all contexts.
 use Rattle.std.specs.Prelude.{◌≡◌, ℕ, true, List, flat_map}
 use Rattle.std.specs.List.{All}
-use Rattle.pd_record.specs.Life.{rises}
+use Rattle.pd_board.specs.OnContext.{rises}
 use Rattle.pd_board.specs.Order.{OnceBelow}
 
 -- the answer numbers of a session's suspensions, of each context in order: over all contexts they are the numbers below its number of

@@ -10,14 +10,14 @@ use Rattle.pd_board.specs.declared.answers.Known.{Known}
 use Rattle.pd_board.specs.declared.answers.Known.TheVariants as knowns
 use Rattle.pd_board.specs.declared.answers.Sight.{Sight}
 use Rattle.pd_board.specs.Answers.{has_dispose}
-use Rattle.pd_record.specs.Life.{rises}
+use Rattle.pd_board.specs.OnContext.{rises}
 use Rattle.pd_record.specs.Acts.{uses_up}
 use Rattle.pd_session.specs.declared.record.ActionResult.{ActionResult}
 use Rattle.pd_session.specs.Results.{Readings, act_in, AreResults}
 use Rattle.pd_shared.specs.declared.token.Token.{Token}
 use Rattle.pd_shared.specs.Book.{known_at, reads_at}
 use Rattle.pd_seats.specs.Back.{numbers_for}
-use Rattle.pd_run.specs.Part.{Part, is_spent, IsLifeOn}
+use Rattle.pd_run.specs.Part.{Part, is_spent, HasLife}
 
 -- ---- the answers of a context's board, and those of its acts
 
@@ -68,7 +68,7 @@ pub record ContextHand : Type 0 where
 pub record IsContext (bindings : ℕ) (plan : Plan) (start : ℕ → Known) (h : ContextHand) : Type 0 where
   pub seen : h.token.journal.sights ≡ h.part.seen
   pub replies : AreReplies plan h.part h.deeds h.token.journal.replies
-  pub lives : (b : ℕ) → b < bindings → IsLifeOn plan b (start b ≡ knowns.Attached) (known_at h.token.known.items b ≡ knowns.Disposed) h.part
+  pub lives : (b : ℕ) → b < bindings → HasLife plan b (start b ≡ knowns.Attached) (known_at h.token.known.items b ≡ knowns.Disposed) h.part
   pub numbers : (s : ℕ) → rises (numbers_for s h.token) ≡ true
 
 -- ---- a session's

@@ -13,7 +13,7 @@ use Rattle.pd_board.specs.Kept.{numbers_of, IsMissed, FitsToggles, EachAfter}
 use Rattle.pd_board.specs.Tally.{state_by}
 use Rattle.pd_board.specs.Order.{has_gone, IsInOrder}
 use Rattle.pd_board.specs.Order.{OnceBelow, is_first, HasCause}
-use Rattle.pd_run.specs.Part.{Part, replies_of, is_spent, IsLifeOn}
+use Rattle.pd_run.specs.Part.{Part, replies_of, is_spent, HasLife}
 
 -- what all contexts and sessions tell of bindings: the answers of the attaches before the run, in order; of each context its part; and of
 -- each session the answers of its acts, in order
@@ -41,7 +41,7 @@ pub record OfEach (P : List ActResult → Type 0) (w : Whole) : Type 0 where
 -- the life of binding b of the plan, with this tally
 pub record IsLife (plan : Plan) (b : ℕ) (w : Whole) (t : BindingTally) : Type 0 where
   -- on each context, with what its acts there say
-  pub lives : All (IsLifeOn plan b (has_attach b w.before ≡ true) (IsGone t)) w.contexts
+  pub lives : All (HasLife plan b (has_attach b w.before ≡ true) (IsGone t)) w.contexts
   -- over all contexts the numbers are those below its count, each once
   pub numbers : OnceBelow t.count (numbers_of b (seen_in w))
   -- of all attaches, where there are any, exactly one answered `Attached` or `Gone`; where the count is above 0, `Attached`

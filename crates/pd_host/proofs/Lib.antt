@@ -1,0 +1,3 @@
+pub mod AttachingLaws
+pub mod RunLaws
+pub mod TaskLaws

@@ -1,0 +1,4 @@
+mod OutcomeLaws
+pub mod Context
+pub mod Returned
+mod TaskLaws
