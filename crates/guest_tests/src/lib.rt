@@ -1,15 +1,24 @@
 //! `pd_guest`: what is told of one context over a board of its own.
 #![tactic(auto)]
 
+#[cfg(test)]
 mod plans;
+#[cfg(test)]
 mod running;
+#[cfg(test)]
 mod showing;
 
+#[cfg(test)]
 use crate::plans::{answer, breakpoint, compared, observer, plan};
+#[cfg(test)]
 use crate::running::record_of;
+#[cfg(test)]
 use crate::showing::shown;
+#[cfg(test)]
 use pd_plan::{Op, Resume};
+#[cfg(test)]
 use pd_values::Value;
+#[cfg(test)]
 use std::test::Fail;
 
 #[test]
