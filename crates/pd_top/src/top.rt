@@ -172,7 +172,13 @@ pub fn run<R: Threads + Sync, L: Library, K: Sink, G: Gate>(
     out: &mut K,
     gate: &G,
 ) -> Outcome
-    // What each answer says: `Tells` has a line for each.
+    // What each answer says: `Tells` has a line for each. At `Ran` the words are `trace` or `run`, plan and sources are
+    // accepted, and the bytes written are the transcript of the report, which is one of the plan's run (`IsRun`): for
+    // every accepted plan and every interleaving of its contexts and sessions, the output and the end of each context
+    // are its program's meaning under exactly the verdicts that its sessions answered; the log of each binding is
+    // exactly the matching events while it was attached, enabled and not disposed, each once, in each context's order;
+    // and each suspension stands exactly where breakpoints, steps and `debugger` statements put it. No schedule is a
+    // premise: this holds of the one report, in whatever order the threads took their steps.
     ensures tells { Tells
         (reading_of L.held L.given L.faults L.last_fault (texts words.now) files.old files.new)
         (writing_of K.taken K.accepted K.faults out.old out.new) result }
