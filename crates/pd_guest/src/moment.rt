@@ -1,5 +1,6 @@
 //! An event of a context, with what it is served by.
 ghost use Rattle.std.specs.Prelude.{◌≡◌, ◌<◌, length, slice_get, Some, IfOk};
+ghost use Rattle.pd_machine.specs.Events.{at_of, frame_of};
 ghost use Rattle.pd_condition.specs.Truths.{truth_for, truth_of};
 ghost use Rattle.pd_guest.specs.Moment.{IsStanding};
 
@@ -7,6 +8,7 @@ use pd_condition::{Truth, holds, resolve};
 use pd_machine::{Event, Scene};
 use pd_plan::{BindingSpec, Condition, Plan};
 use pd_tree::Program;
+use pd_values::NodeId;
 use std::alloc::{AllocError, Global};
 use std::marker::Model;
 
@@ -57,11 +59,28 @@ pub(crate) fn truth(
     }
 }
 
-/// What a condition comes to at an event. Its names are found among what is seen at the event's node.
+/// What a condition comes to at an event.
 fn test(alloc: Global, m: &Moment<'_, '_>, condition: &Condition) -> Result<Truth, AllocError>
     requires { IsStanding m.now }
     ensures { IfOk result (λ x. x ≡ truth_of condition.now m.now.program m.now.told.scene) }
 {
-    let resolved = resolve(alloc, condition, m.program, m.event.node)?;
-    Ok(holds(&resolved, m.scene))
+    let truth = test_at(alloc, condition, m.program, m.event.node, m.scene)?;
+    Ok(truth)
+}
+
+/// What a condition comes to at a scene whose innermost frame stands at the node. Its names are found among what is seen
+/// there.
+fn test_at(
+    alloc: Global,
+    condition: &Condition,
+    program: &Program,
+    node: NodeId,
+    scene: &Scene<'_>,
+) -> Result<Truth, AllocError>
+    requires node { node < length program.now.nodes }
+    requires frame { at_of (frame_of scene.now.frames 0) ≡ Some node }
+    ensures { IfOk result (λ x. x ≡ truth_of condition.now program.now scene.now) }
+{
+    let resolved = resolve(alloc, condition, program, node)?;
+    Ok(holds(&resolved, scene))
 }
