@@ -12,3 +12,4 @@ pub mod AnsweringLaws
 pub mod BeginningLaws
 pub mod AskingLaws
 pub mod ReadyLaws
+pub mod StandingLaws

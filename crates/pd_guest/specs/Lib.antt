@@ -10,8 +10,6 @@ pub mod Replying
 pub mod Beginning
 pub mod Showing
 pub mod Hitting
-pub mod Seeing
-pub mod Operands
 pub mod Reasoning
 pub mod Acting
 pub mod Asking

@@ -1,10 +1,10 @@
 //! The hits of an event: the breakpoints and pauses that suspend a session there.
 ghost use Rattle.std.specs.Prelude.{◌≡◌, ◌&&◌, ◌++◌, IfOk, OnOk};
 ghost use Rattle.std.specs.List.{filter_map};
-ghost use Rattle.std.specs.Option.{ForSome, option_to_list};
+ghost use Rattle.std.specs.Option.{option_to_list};
 ghost use Rattle.pd_break.specs.Hits.{is_of_session, suspends_at};
 ghost use Rattle.pd_condition.specs.Truths.{is_cannot as is_not_told};
-ghost use Rattle.pd_guest.specs.Moment.{seen_at};
+ghost use Rattle.pd_guest.specs.Moment.{IsStanding};
 ghost use Rattle.pd_guest.specs.Hitting.{hit_in, is_suspend};
 
 use crate::moment::{Moment, truth};
@@ -13,7 +13,6 @@ use pd_break::{Decision, decide};
 use pd_condition::Truth;
 use pd_plan::BindingSpec;
 use pd_suspend::Reason;
-use pd_tree::Visible;
 use pd_values::Items;
 use std::alloc::{AllocError, Global};
 
@@ -24,12 +23,12 @@ pub(crate) fn hits_of(
     sights: &[Sight],
     session: u32,
 ) -> Result<Items<Reason>, AllocError>
+    requires { IsStanding m.now }
     ensures { IfOk result (λ r. r ≡ filter_map (hit_in m.now session) sights.now) }
 {
-    let mut seen = None;
     let mut hits = Items::of(Vec::new(alloc));
     'sights: for sight in sights {
-        let found = hit(alloc, m, sight, session, &mut seen)?;
+        let found = hit(alloc, m, sight, session)?;
         keep(&mut hits, found)?;
     }
     Ok(hits)
@@ -51,11 +50,9 @@ fn hit(
     m: &Moment<'_, '_>,
     sight: &Sight,
     session: u32,
-    seen: &mut Option<Items<Visible>>,
 ) -> Result<Option<Reason>, AllocError>
-    requires seen { ForSome seen.old (λ v. v ≡ seen_at m.now.program m.now.told.scene) }
-    ensures hit { IfOk result (λ r. r ≡ hit_in m.now session sight.now) }
-    ensures seen { OnOk result (ForSome seen.new (λ v. v ≡ seen_at m.now.program m.now.told.scene)) }
+    requires { IsStanding m.now }
+    ensures { IfOk result (λ r. r ≡ hit_in m.now session sight.now) }
 {
     let Drawn::On { place } = sight.drawn else {
         return Ok(None);
@@ -66,7 +63,7 @@ fn hit(
     if !suspends(spec, session, place) {
         return Ok(None);
     }
-    let cannot = is_cannot(truth(alloc, m, spec, seen)?);
+    let cannot = is_cannot(truth(alloc, m, spec)?);
     Ok(Some(Reason::Hit {
         binding: sight.binding,
         place,

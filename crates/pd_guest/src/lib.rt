@@ -13,7 +13,6 @@ mod record;
 mod serving;
 mod showing;
 mod stopping;
-mod testing;
 mod verdict;
 mod watch;
 

@@ -1,15 +1,14 @@
 //! An event of a context, with what it is served by.
-ghost use Rattle.std.specs.Prelude.{◌≡◌, ◌<◌, length, slice_get, Some, IfOk, OnOk};
-ghost use Rattle.std.specs.Option.{ForSome};
+ghost use Rattle.std.specs.Prelude.{◌≡◌, ◌<◌, length, slice_get, Some, IfOk};
+ghost use Rattle.pd_machine.specs.Events.{at_of, frame_of};
 ghost use Rattle.pd_condition.specs.Truths.{truth_for, truth_of};
-ghost use Rattle.pd_guest.specs.Moment.{seen_at};
+ghost use Rattle.pd_guest.specs.Moment.{IsStanding};
 
-use crate::testing::holds;
-use pd_condition::Truth;
+use pd_condition::{Truth, holds, resolve};
 use pd_machine::{Event, Scene};
 use pd_plan::{BindingSpec, Condition, Plan};
-use pd_tree::{Program, Visible};
-use pd_values::Items;
+use pd_tree::Program;
+use pd_values::NodeId;
 use std::alloc::{AllocError, Global};
 use std::marker::Model;
 
@@ -42,57 +41,46 @@ pub(crate) fn spec_of(plan: &Plan, b: u32) -> &BindingSpec
     &plan.bindings.as_slice()[b as usize]
 }
 
-/// What the condition of a binding comes to at an event. What the innermost frame sees there is made where a condition
-/// asks for it first, and kept in `seen`.
+/// What the condition of a binding comes to at an event.
 pub(crate) fn truth(
     alloc: Global,
     m: &Moment<'_, '_>,
     spec: &BindingSpec,
-    seen: &mut Option<Items<Visible>>,
 ) -> Result<Truth, AllocError>
-    requires seen { ForSome seen.old (λ v. v ≡ seen_at m.now.program m.now.told.scene) }
-    ensures truth { IfOk result (λ x. x ≡ truth_for spec.now m.now.program m.now.told.scene) }
-    ensures seen { OnOk result (ForSome seen.new (λ v. v ≡ seen_at m.now.program m.now.told.scene)) }
+    requires { IsStanding m.now }
+    ensures { IfOk result (λ x. x ≡ truth_for spec.now m.now.program m.now.told.scene) }
 {
     match spec {
         BindingSpec::Observe(_) | BindingSpec::Pause { .. } => Ok(Truth::True),
         BindingSpec::Break(spec) => match &spec.condition {
             None => Ok(Truth::True),
-            Some(condition) => test(alloc, m, condition, seen),
+            Some(condition) => test(alloc, m, condition),
         },
     }
 }
 
 /// What a condition comes to at an event.
-fn test(
-    alloc: Global,
-    m: &Moment<'_, '_>,
-    condition: &Condition,
-    seen: &mut Option<Items<Visible>>,
-) -> Result<Truth, AllocError>
-    requires seen { ForSome seen.old (λ v. v ≡ seen_at m.now.program m.now.told.scene) }
-    ensures truth { IfOk result (λ x. x ≡ truth_of condition.now m.now.program m.now.told.scene) }
-    ensures seen { OnOk result (ForSome seen.new (λ v. v ≡ seen_at m.now.program m.now.told.scene)) }
+fn test(alloc: Global, m: &Moment<'_, '_>, condition: &Condition) -> Result<Truth, AllocError>
+    requires { IsStanding m.now }
+    ensures { IfOk result (λ x. x ≡ truth_of condition.now m.now.program m.now.told.scene) }
 {
-    let list = match seen.take() {
-        Some(list) => list,
-        None => see(alloc, m.program, m.scene)?,
-    };
-    let truth = holds(condition, list.as_slice(), m.scene);
-    *seen = Some(list);
+    let truth = test_at(alloc, condition, m.program, m.event.node, m.scene)?;
     Ok(truth)
 }
 
-/// The variables that the innermost frame sees.
-fn see(alloc: Global, program: &Program, scene: &Scene<'_>) -> Result<Items<Visible>, AllocError>
-    ensures { IfOk result (λ v. v ≡ seen_at program.now scene.now) }
+/// What a condition comes to at a scene whose innermost frame stands at the node. Its names are found among what is seen
+/// there.
+fn test_at(
+    alloc: Global,
+    condition: &Condition,
+    program: &Program,
+    node: NodeId,
+    scene: &Scene<'_>,
+) -> Result<Truth, AllocError>
+    requires node { node < length program.now.nodes }
+    requires frame { at_of (frame_of scene.now.frames 0) ≡ Some node }
+    ensures { IfOk result (λ x. x ≡ truth_of condition.now program.now scene.now) }
 {
-    if scene.frames() == 0 {
-        return Ok(Items::of(Vec::new(alloc)));
-    }
-    let node = scene.at(0);
-    if node.0 >= program.nodes() {
-        return Ok(Items::of(Vec::new(alloc)));
-    }
-    Ok(Items::of(program.sees(alloc, node)?))
+    let resolved = resolve(alloc, condition, program, node)?;
+    Ok(holds(&resolved, scene))
 }

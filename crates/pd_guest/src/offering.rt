@@ -1,6 +1,5 @@
 //! The bindings that a load of a node held.
 ghost use Rattle.std.specs.Prelude.{◌≡◌, ℕ, ◌<◌, ◌+◌, ◌^◌, true, false, length, OnOk, List, Some, ◌&&◌};
-ghost use Rattle.std.specs.Option.{ForSome};
 ghost use Rattle.pd_board.specs.declared.answers.Known.{Known as Knowledge};
 ghost use Rattle.pd_board.specs.declared.answers.ActResult.{ActResult as Reply};
 ghost use Rattle.pd_board.specs.Answers.{is_gone};
@@ -14,7 +13,7 @@ ghost use Rattle.pd_record.specs.Logs.{is_on};
 ghost use Rattle.pd_suspend.specs.Steps.{is_enter};
 ghost use Rattle.pd_guest.specs.Delivering.{steady_of};
 ghost use Rattle.pd_guest.specs.Growing.{IsMore};
-ghost use Rattle.pd_guest.specs.Moment.{seen_at};
+ghost use Rattle.pd_guest.specs.Moment.{IsStanding};
 ghost use Rattle.pd_guest.specs.Offering.{IsOffered, IsAmple, IsSpent, IsOffering};
 
 use crate::deliver::{Deliveries, deliver};
@@ -22,7 +21,6 @@ use crate::moment::{Moment, spec_of, truth};
 use pd_board::{Board, Chain, Drawn, Known};
 use pd_condition::Truth;
 use pd_plan::BindingSpec;
-use pd_tree::Visible;
 use pd_values::Items;
 use std::alloc::{AllocError, Global};
 
@@ -34,7 +32,6 @@ fn offer<B: Board>(
     kept: &mut Deliveries,
     m: &Moment<'_, '_>,
     b: u32,
-    seen: &mut Option<Items<Visible>>,
     on: &mut Items<u32>,
 ) -> Result<(), AllocError>
     requires binding { b < bindings (B.standing board.old) }
@@ -48,9 +45,8 @@ fn offer<B: Board>(
     requires spare { 1 < (B.standing board.old).spare }
     requires share { 0 < (B.standing board.old).draw_share }
     requires room { (B.standing board.old).cleared + 1 < 2 ^ 60 }
-    requires seen { ForSome seen.old (λ v. v ≡ seen_at m.now.program m.now.told.scene) }
+    requires stands { IsStanding m.now }
     ensures met { OnOk result (IsOffered m.now b (B.standing board.old) (B.standing board.new) kept.old kept.new on.old on.new) }
-    ensures seen { OnOk result (ForSome seen.new (λ v. v ≡ seen_at m.now.program m.now.told.scene)) }
     ensures steady { steady_of (B.standing board.new) ≡ steady_of (B.standing board.old) }
     ensures base { B.base board.new ≡ B.base board.old }
 {
@@ -59,7 +55,7 @@ fn offer<B: Board>(
         return Ok(());
     }
     let spec = spec_of(m.plan, b);
-    let truth = truth(alloc, m, spec, seen)?;
+    let truth = truth(alloc, m, spec)?;
     if is_refusal(truth) {
         board.pass(m.event.number, b);
         return Ok(());
@@ -110,7 +106,8 @@ pub(crate) fn offer_all<B: Board>(
     chain: &Chain,
     on: &mut Items<u32>,
 ) -> Result<(), AllocError>
-    requires { IsAmple m.now (has chain.now) (B.standing board.old) kept.old }
+    requires ample { IsAmple m.now (has chain.now) (B.standing board.old) kept.old }
+    requires stands { IsStanding m.now }
     ensures spent { OnOk result (IsSpent (has chain.now) m.now.told.event.number 4096 (B.standing board.old) (B.standing board.new) kept.old kept.new) }
     ensures offering { OnOk result ((start : ℕ → Knowledge) (ts : List Told) (done : List (ℕ × Reply)) → is_enter m.now.told.event.kind ≡ true
         → IsOffering m.now start ts done (has chain.now) 0 (B.standing board.old) kept.old on.old
@@ -119,10 +116,9 @@ pub(crate) fn offer_all<B: Board>(
     ensures steady { steady_of (B.standing board.new) ≡ steady_of (B.standing board.old) }
     ensures base { B.base board.new ≡ B.base board.old }
 {
-    let mut seen = None;
     let mut from = 0;
     'chain: while let Some(b) = chain.next_from(from) {
-        offer(alloc, board, kept, m, b, &mut seen, on)?;
+        offer(alloc, board, kept, m, b, on)?;
         from = b + 1;
     }
     Ok(())

@@ -4,6 +4,7 @@ ghost use Rattle.pd_tree.specs.Program.{has_tag, node_at};
 ghost use Rattle.pd_suspend.specs.Steps.{is_enter as begins, gives};
 ghost use Rattle.pd_suspend.specs.Counters.{moved_any};
 ghost use Rattle.pd_suspend.specs.Stops.{anchor_of};
+ghost use Rattle.pd_guest.specs.Moment.{IsStanding};
 ghost use Rattle.pd_guest.specs.Reasoning.{reasons_seen};
 ghost use Rattle.pd_guest.specs.Asking.{IsPlaceOf};
 
@@ -85,6 +86,7 @@ pub(crate) fn reasons_of(
     stepper: &mut Stepper,
     place: Place,
 ) -> Result<Items<Reason>, AllocError>
+    requires { IsStanding m.now }
     ensures reasons { IfOk result (λ r. r ≡ reasons_seen m.now sights.now session stepper.old place) }
     ensures moved { OnOk result (stepper.new ≡ moved_any stepper.old place.before place.after m.now.told.event.depth) }
 {

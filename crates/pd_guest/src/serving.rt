@@ -8,6 +8,7 @@ ghost use Rattle.pd_order.specs.Order.{IsNext};
 ghost use Rattle.pd_guest.specs.Delivering.{steady_of};
 ghost use Rattle.pd_guest.specs.Keeping.{IsRoomed, IsRoomedFor, IsKeptAt, start_of};
 ghost use Rattle.pd_guest.specs.Growing.{IsMore};
+ghost use Rattle.pd_guest.specs.Moment.{IsStanding};
 
 use crate::deliver::Deliveries;
 use crate::finishing::finish_all;
@@ -91,6 +92,7 @@ pub(crate) fn on_enter<B: Board>(
     requires few { m.now.told.event.number < 2 ^ 25 }
     requires shares { (x : ℕ) → x < (B.standing board.old).sessions → 2 ^ 26 ≤ (B.standing board.old).answer_share x + (length h.old.history.events) }
     requires enter { is_enter m.now.told.event.kind ≡ true }
+    requires stands { IsStanding m.now }
     ensures kept { OnOk result (IsKeptAt m.now.plan m.now.program (start_of h.old.start.known) ((length h.old.history.events) + 1) (h.old.history.events ++ m.now.told ∷ []) (acts_of h.old.stops.items) (B.standing board.new) h.new.opens.items h.new.kept) }
     ensures more { OnOk result (IsMore m.now.plan m.now.told.event.number (B.standing board.old) (B.standing board.new)) }
     ensures context { OnOk result (h.new.kept.context ≡ h.old.kept.context) }
@@ -154,6 +156,7 @@ pub(crate) fn serve<B: Board>(
     requires node { m.now.told.event.node < (B.standing board.old).nodes }
     requires few { m.now.told.event.number < 2 ^ 25 }
     requires shares { (x : ℕ) → x < (B.standing board.old).sessions → 2 ^ 26 ≤ (B.standing board.old).answer_share x + (length h.old.history.events) }
+    requires stands { IsStanding m.now }
     ensures kept { OnOk result (IsKeptAt m.now.plan m.now.program (start_of h.old.start.known) ((length h.old.history.events) + 1) (h.old.history.events ++ m.now.told ∷ []) (acts_of h.old.stops.items) (B.standing board.new) h.new.opens.items h.new.kept) }
     ensures more { OnOk result (IsMore m.now.plan m.now.told.event.number (B.standing board.old) (B.standing board.new)) }
     ensures context { OnOk result (h.new.kept.context ≡ h.old.kept.context) }

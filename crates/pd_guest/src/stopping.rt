@@ -6,8 +6,9 @@ ghost use Rattle.pd_suspend.specs.Answers.{IsLawful};
 ghost use Rattle.pd_suspend.specs.Stops.{verdicts_of, views_of, anchor_of};
 ghost use Rattle.pd_meaning.specs.Meaning.{Verdicts};
 ghost use Rattle.pd_eval.specs.Watching.{GivesNoFunction, keep};
-ghost use Rattle.pd_order.specs.Order.{IsNext};
+ghost use Rattle.pd_order.specs.Order.{IsNext, IsPlaced};
 ghost use Rattle.pd_guest.specs.Delivering.{settled_of};
+ghost use Rattle.pd_guest.specs.Moment.{IsStanding};
 ghost use Rattle.pd_guest.specs.Replying.{IsGiven};
 ghost use Rattle.pd_guest.specs.Asking.{IsKept, IsAsking, IsGivenBy, IsAsked, IsPlaceOf, is_go, verdict_by, stepper_at};
 ghost use Rattle.pd_plan.specs.declared.plan.Resume.TheVariants.{Continue as GoOn};
@@ -40,7 +41,7 @@ pub(crate) fn attend<B: Board, A: Answerer>(
     requires given { IsGiven (A.admits (A.base answerer.old)) (A.keeps (A.base answerer.old)) h.old.first.list (A.list answerer.old) h.old.stops.items }
     requires lawful { (x : Stop) (a : Given) → A.admits (A.base answerer.old) x a → IsLawful m.now.plan a }
     requires next { IsNext h.old.history.events m.now.told.event }
-    requires node { m.now.told.event.node < (B.standing board.old).nodes }
+    requires placed { IsPlaced (B.standing board.old).nodes m.now.told.event m.now.told.scene }
     requires few { m.now.told.event.number < 2 ^ 25 }
     ensures kept { OnOk result (IsKept m.now.plan m.now.program (B.standing board.new) h.new) }
     ensures given { OnOk result (IsGiven (A.admits (A.base answerer.old)) (A.keeps (A.base answerer.old)) h.old.first.list (A.list answerer.new) h.new.stops.items) }
@@ -72,6 +73,7 @@ fn stop_all<B: Board, A: Answerer>(
     first: usize,
 ) -> Result<Verdict, AllocError>
     requires asking { IsAsking m.now first 0 true (B.standing board.old) h.old }
+    requires stands { IsStanding m.now }
     requires given { IsGiven (A.admits (A.base answerer.old)) (A.keeps (A.base answerer.old)) h.old.first.list (A.list answerer.old) h.old.stops.items }
     requires lawful { (x : Stop) (a : Given) → A.admits (A.base answerer.old) x a → IsLawful m.now.plan a }
     ensures asking { IfOk result (λ v. IsAsking m.now first (length m.now.plan.sessions) (is_go v) (B.standing board.new) h.new) }
@@ -107,6 +109,7 @@ fn turn<B: Board, A: Answerer>(
     requires asking { IsAsking m.now first session (is_go verdict) (B.standing board.old) h.old }
     requires session { session < length m.now.plan.sessions }
     requires place { IsPlaceOf m.now place }
+    requires stands { IsStanding m.now }
     requires given { IsGiven (A.admits (A.base answerer.old)) (A.keeps (A.base answerer.old)) h.old.first.list (A.list answerer.old) h.old.stops.items }
     requires lawful { (x : Stop) (a : Given) → A.admits (A.base answerer.old) x a → IsLawful m.now.plan a }
     requires value { GivesNoFunction verdict }
@@ -150,6 +153,7 @@ fn stop<B: Board, A: Answerer>(
     requires asking { IsAsking m.now first session true (B.standing board.old) h.old }
     requires session { session < length m.now.plan.sessions }
     requires place { IsPlaceOf m.now place }
+    requires stands { IsStanding m.now }
     requires given { IsGiven (A.admits (A.base answerer.old)) (A.keeps (A.base answerer.old)) h.old.first.list (A.list answerer.old) h.old.stops.items }
     requires lawful { (x : Stop) (a : Given) → A.admits (A.base answerer.old) x a → IsLawful m.now.plan a }
     ensures asking { IfOk result (λ v. IsAsking m.now first (session + 1) (is_go v) (B.standing board.new) h.new) }

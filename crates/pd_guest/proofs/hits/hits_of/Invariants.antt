@@ -1,13 +1,8 @@
 -- The hits among what was seen before the index.
 use Rattle.std.proofs.Common.{◌≡◌, take}
 use Rattle.std.specs.List.{filter_map}
-use Rattle.std.specs.Option.{ForSome}
-use Rattle.pd_guest.specs.Moment.{seen_at}
 use Rattle.pd_guest.specs.Hitting.{hit_in}
 use Rattle.pd_guest.proofs.hits.hits_of.Given as goal
 
 abbrev pub invariant-sights : goal.invariant-sights
-invariant-sights l = record {
-  hits : l.hits ≡ filter_map (hit_in l.m l.session) (take l.sight-index l.sights);
-  seen : ForSome l.seen (λ v. v ≡ seen_at l.m.program l.m.told.scene);
-}
+invariant-sights l = l.hits ≡ filter_map (hit_in l.m l.session) (take l.sight-index l.sights)

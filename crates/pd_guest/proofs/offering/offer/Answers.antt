@@ -16,7 +16,7 @@ returns-in_ok-push-clause-met g c =
     let new : Standing = g.B.Board.standing c.deliver.new.board in
     met_on m c.args.b c.spec_of-spec.result.now _ _ c.in_ok-drawn.drawn old new c.args.kept.now c.deliver.new.kept c.args.on.now c.push.new.self
     (ap (λ y. slice_get y.plan.bindings c.args.b) (sym c.m.view_is) ∙ c.spec_of-spec.ensures)
-    (c.is_refusal.ensures ∙ ap is_false c.in_ok-truth.ensures.truth)
+    (c.is_refusal.ensures ∙ ap is_false c.in_ok-truth.ensures)
     c.if-is_refusal.false
     (subst (λ y. IsDelivered y.plan y.told.event c.args.b c.in_ok-drawn.drawn old new c.args.kept.now c.deliver.new.kept) c.m.view_is c.in_ok-drawn.ensures.delivered)
     c.is_followed.ensures
@@ -29,7 +29,7 @@ returns-else-is_followed-clause-met g c =
     let new : Standing = g.B.Board.standing c.deliver.new.board in
     met_on m c.args.b c.spec_of-spec.result.now _ _ c.in_ok-drawn.drawn old new c.args.kept.now c.deliver.new.kept c.args.on.now c.args.on.now
     (ap (λ y. slice_get y.plan.bindings c.args.b) (sym c.m.view_is) ∙ c.spec_of-spec.ensures)
-    (c.is_refusal.ensures ∙ ap is_false c.in_ok-truth.ensures.truth)
+    (c.is_refusal.ensures ∙ ap is_false c.in_ok-truth.ensures)
     c.if-is_refusal.false
     (subst (λ y. IsDelivered y.plan y.told.event c.args.b c.in_ok-drawn.drawn old new c.args.kept.now c.deliver.new.kept) c.m.view_is c.in_ok-drawn.ensures.delivered)
     c.is_followed.ensures

@@ -1,12 +1,10 @@
 -- All below `from` are served.
 use Rattle.std.proofs.Common.{◌≡◌, ℕ, ◌-◌, ◌≤◌, true, List}
-use Rattle.std.specs.Option.{ForSome}
 use Rattle.pd_board.specs.declared.answers.Known.{Known}
 use Rattle.pd_board.specs.declared.answers.ActResult.{ActResult}
 use Rattle.pd_board.specs.Chain.{has}
 use Rattle.pd_machine.specs.Events.{Told}
 use Rattle.pd_suspend.specs.Steps.{is_enter}
-use Rattle.pd_guest.specs.Moment.{seen_at}
 use Rattle.pd_guest.specs.Offering.{IsSpent, IsOffering}
 use Rattle.pd_guest.specs.Growing.{IsMore}
 use Rattle.pd_guest.proofs.offering.offer_all.Given as goal
@@ -14,7 +12,6 @@ use Rattle.pd_guest.proofs.offering.offer_all.Given as goal
 abbrev pub invariant-chain : goal.invariant-chain
 invariant-chain g l = record {
   from_in : l.from ≤ 4096;
-  seen : ForSome l.seen (λ v. v ≡ seen_at l.m.program l.m.told.scene);
   spent : IsSpent (has l.chain) l.m.told.event.number l.from (g.B.Board.standing l.initial.board) (g.B.Board.standing l.board) l.initial.kept l.kept;
   more : IsMore l.m.plan l.m.told.event.number (g.B.Board.standing l.initial.board) (g.B.Board.standing l.board);
   base : g.B.Board.base l.board ≡ g.B.Board.base l.initial.board;

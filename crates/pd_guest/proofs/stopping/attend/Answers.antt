@@ -5,7 +5,14 @@ use Rattle.pd_guest.specs.declared.serving.Progress.{Progress}
 use Rattle.pd_guest.specs.Moment.{At}
 use Rattle.pd_guest.specs.Asking.{IsAsking, is_go}
 use Rattle.pd_guest.proofs.AskingLaws.{asking-begins, kept-over}
+use Rattle.pd_guest.proofs.StandingLaws.{standing_by}
 use Rattle.pd_guest.proofs.stopping.attend.Goals as goal
+
+pub serve-requires-clause-stands : goal.serve-requires-clause-stands
+serve-requires-clause-stands g c = standing_by c.args.m.now (g.B.Board.standing c.args.board.now).nodes c.requires.kept.at_next.nodes c.requires.placed
+
+pub stop_all-requires-clause-stands : goal.stop_all-requires-clause-stands
+stop_all-requires-clause-stands g c = standing_by c.args.m.now (g.B.Board.standing c.args.board.now).nodes c.requires.kept.at_next.nodes c.requires.placed
 
 pub stop_all-requires-clause-asking : goal.stop_all-requires-clause-asking
 stop_all-requires-clause-asking g c =
