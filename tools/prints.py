@@ -7,7 +7,8 @@
 demo/NAME.txt has what `run` prints of the plan demo/NAME, or what `trace` prints of the source demo/NAME. Each plan and source of demo/
 has such a file or is named by a plan that has one. In README.md and docs/ a block is tried whose first line begins with `$ `: each such
 line is a command, and what follows is what it prints, messages included. Commands run at the top of the repository, and `./polydbg` is
-the program with what the script adds to its messages.
+the program with what the script adds to its messages. In both `…` stands for any characters, and alone on a line for any lines: so what differs from run
+to run can be left out. A text that is met so is kept as it is.
 """
 import difflib
 import os
@@ -32,6 +33,14 @@ exit "$status"
 """
 
 
+def is_met(said, text):
+    """Tells whether what is printed is what was said, where `…` stands for anything."""
+    if "…" not in said:
+        return said == text
+    lines = ["(?:.*\n)*" if line == "…\n" else ".*".join(re.escape(it) for it in line.split("…")) for line in said.splitlines(keepends=True)]
+    return re.fullmatch("".join(lines), text) is not None
+
+
 def printed(commands, room):
     """Returns what a terminal shows of the commands, one after the other."""
     lines = ["status=0"]
@@ -54,7 +63,8 @@ def with_prints(text, room):
 
     def block(found):
         commands = [it[2:] for it in found[1].split("\n") if it.startswith("$ ")]
-        return f"```\n{printed(commands, room)}```"
+        text = printed(commands, room)
+        return f"```\n{found[1] if is_met(found[1], text) else text}```"
 
     return BLOCK.sub(block, text)
 
@@ -69,9 +79,12 @@ def demos():
 
 
 def print_of(name, room):
+    """Returns what is printed of a demo: what its stored print says where that is met."""
     command = "run" if name.endswith(".json") else "trace"
     ran = subprocess.run([f"{room}/polydbg", command, f"demo/{name}"], cwd=listed.HOME, stdout=subprocess.PIPE, stderr=subprocess.STDOUT)
-    return ran.stdout.decode(errors="replace")
+    text = ran.stdout.decode(errors="replace")
+    said = listed.read_text(f"demo/{name}.txt")
+    return said if is_met(said, text) else text
 
 
 def wanted(room):

@@ -38,7 +38,8 @@ pub trait Watcher {
 
     /// The next event of the run, with the frames at it. Its number, below 2^25, is how many events were told before; an
     /// end is that of the innermost open activation; its depth is the number of frames; it and its frames stand at nodes
-    /// of the program. After an error no event is told any more.
+    /// of the program, and the innermost frame, which there always is, at its own. After an error no event is told any
+    /// more.
     fn event(&mut self, event: &Event, scene: &Scene<'_>) -> Result<Verdict, AllocError>
         requires ready { Self.ready self.old }
         requires next { IsNext (events self.old) event.now }

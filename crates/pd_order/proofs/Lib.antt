@@ -1,4 +1,5 @@
 pub mod Lists
+pub mod Calls
 pub mod Turns
 pub mod Runs
 pub mod Frames

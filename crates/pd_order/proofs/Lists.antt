@@ -9,6 +9,7 @@ use Rattle.pd_machine.specs.declared.run.Frame.{Frame}
 use Rattle.pd_machine.specs.declared.run.Home.{Home}
 use Rattle.pd_machine.specs.declared.run.Home.TheVariants.{InFrame, InMain}
 use Rattle.pd_machine.specs.Events.{Scene, Told, change_at, set_home, standing, push_frame, pop_frame}
+use Rattle.pd_machine.proofs.Changed.{length_of_changed}
 use Rattle.pd_order.specs.Order.{open_with, open_after, IsEndOf, IsNext, IsNextAt, AreInOrder, AreInOrderFrom}
 use Rattle.pd_order.specs.Standing.{FrameIs, place_of}
 
@@ -67,6 +68,12 @@ all_changed : {X : Type 0} (Q : X → Type 0) (xs : List X) (i : ℕ) (f : X →
 all_changed Q [] i f k h = h
 all_changed Q (x ∷ xs) zero f k h = All-cons Q (f x) xs (k x (All-head Q x xs h)) (All-tail Q x xs h)
 all_changed Q (x ∷ xs) (suc i) f k h = All-cons Q x (change_at xs i f) (All-head Q x xs h) (all_changed Q xs i f k (All-tail Q x xs h))
+
+-- a variable is written in a frame, and their number stays
+pub length_written : (c : Scene) (x : Option Home) (slot : ℕ) (a : Value) → length (set_home c x slot a).frames ≡ length c.frames
+length_written c None slot a = refl
+length_written c (Some (InFrame k)) slot a = length_of_changed c.frames k _
+length_written c (Some (InMain m)) slot a = refl
 
 module _ (P : ℕ → Type 0) where
   pub all_written : (c : Scene) (x : Option Home) (slot : ℕ) (a : Value) → All (FrameIs P) c.frames → All (FrameIs P) (set_home c x slot a).frames

@@ -53,7 +53,7 @@ roots_below p linked i r h = ⊎_elim
     (cases_lt i (length p.items))
 
 pub placed_by : (nodes : ℕ) (t : Told) → IsToldAt (λ n. n < nodes) nodes t → IsPlaced nodes t.event t.scene
-placed_by nodes t h = record { node = h.0; depth = h.1; frames = h.2 }
+placed_by nodes t h = record { node = h.0; depth = h.1; frames = h.2; innermost = h.3 }
 
 pub meaning_placed : (p : Program) (v : Verdicts) (fuel entry : ℕ) → IsWellFormed p → All (λ t. IsPlaced (length p.nodes) t.event t.scene) (meaning_of p entry fuel v).events
 meaning_placed p v fuel entry linked =

@@ -1,9 +1,9 @@
 -- Each turn of a machine keeps its events in order, and what waits to be left open.
-use Rattle.std.proofs.Common.{◌≡◌, ℕ, zero, suc, ◌+◌, ◌<◌, ◌≤◌, Bool, true, false, cond, List, [], ◌∷◌, ◌++◌, length, map, Option, Some, None, Result, Ok, Err, refl, sym, ap, ◌∙◌, ⊎_elim, arith}
+use Rattle.std.proofs.Common.{◌≡◌, ℕ, zero, suc, ◌+◌, ◌-◌, ◌<◌, ◌≤◌, Bool, true, false, cond, List, [], ◌∷◌, ◌++◌, length, map, Option, Some, None, Result, Ok, Err, refl, sym, ap, ◌∙◌, ⊎_elim, arith}
 use Rattle.std.specs.Prelude.{nat_lt, nat_le, slice_get, ◌^◌, ◌==◌, drop}
 use Rattle.std.specs.List.{All}
 use Rattle.std.proofs.lemmas.Bool.{cases_lt}
-use Rattle.std.proofs.lemmas.List.{get_or_past, length_push}
+use Rattle.std.proofs.lemmas.List.{get_or_past, length_push, length-take-le}
 use Rattle.std.proofs.lemmas.List.Elements.{All-nil, All-cons, All-head, All-tail, All-push}
 use Rattle.pd_values.specs.declared.value.Value.{Value}
 use Rattle.pd_values.specs.declared.value.Value.TheVariants.{Bool as Truth, Null, Func}
@@ -30,13 +30,14 @@ use Rattle.pd_machine.specs.declared.run.Pending.{Pending}
 use Rattle.pd_machine.specs.declared.run.Pending.TheVariants.{Leaving, Operand, Catching, Choosing, ChoosingBetween, Testing, Turning, LeftSide, RightSide, InCall, Dropping}
 use Rattle.pd_machine.specs.declared.run.Mode.{Mode}
 use Rattle.pd_machine.specs.declared.run.Mode.TheVariants.{Entering, Starting, Coming}
-use Rattle.pd_machine.specs.Events.{State, Scene, Told, standing, tell, pop_frame, set_variable, blocks_of, frame_of}
-use Rattle.pd_machine.proofs.Changed.{length_of_changed}
+use Rattle.pd_machine.specs.Events.{State, Scene, Told, standing, tell, set_variable, blocks_of, frame_of}
+use Rattle.pd_machine.proofs.Changed.{length_of_changed, standing_at_first}
 use Rattle.pd_meaning.specs.Meaning.{Verdicts, Outcome, ends, answered, on_one, on_two, named, assigned, written, popped, heed, verdict_on, first_or_null, first_variables, frame_for, most_frames, is_main_block, entry_frame, opening}
 use Rattle.pd_meaning.specs.Machine.{Machine, machine, settled, obeyed, entered, entering_turn, call_begun, depth_checked, arguments_checked, item_called, value_called, name_called, combining, part_begun, parts_begun, last_begun, choice_begun, loop_begun, either_begun, starting_turn, by_truth, call_again, value_came, other_came, coming_turn, mode_turn, turn, start, after_turns}
 use Rattle.pd_order.specs.Order.{Fits, IsEndOf, open_with, open_after}
-use Rattle.pd_order.specs.Standing.{FrameIs, IsToldAt, IsTold, IsOpen, IsOpenAt, IsOrderly, called, leaving, place_of}
-use Rattle.pd_order.proofs.Lists.{open_push, order_push, ends_innermost, all_written, all_standing, all_pushed, all_popped}
+use Rattle.pd_order.specs.Standing.{FrameIs, IsInCall, IsInCallAt, RestsOnCall, IsToldAt, IsTold, IsOpen, IsOpenAt, IsOrderly, called, leaving, place_of}
+use Rattle.pd_order.proofs.Lists.{open_push, order_push, ends_innermost, all_written, all_standing, all_pushed, all_popped, length_written}
+use Rattle.pd_order.proofs.Calls.{some_called, turn_in_call}
 
 -- an event of this kind is an end
 abbrev IsEnd : EventKind → Type 0
@@ -83,7 +84,7 @@ module _ (P : ℕ → Type 0) (p : Program) (inside : (n : ℕ) → n < length p
   Stands mode stack s = IsOpenAt P nodes fuel mode (leaving stack) (called stack) s.events s.left s.scene.frames
 
   abbrev Good : Machine → Type 0
-  Good m = IsOrderly P nodes fuel m
+  Good m = Stands m.mode m.stack m.state
 
   abbrev GoodBy : List Pending → Outcome → Type 0
   GoodBy stack (ends r s) = Stands (Coming r) stack s
@@ -122,15 +123,28 @@ module _ (P : ℕ → Type 0) (p : Program) (inside : (n : ℕ) → n < length p
 
   -- ---- frames
 
-  with_frames : (stack : List Pending) (s : State) (c : Scene) → All (FrameIs P) c.frames → Opens stack s → Opens stack (record s { scene = c })
-  with_frames stack s c framed h = record { told = h.told; opens = h.opens; inside = h.inside; few = h.few; begun = h.begun; framed = framed }
+  with_frames : (stack : List Pending) (s : State) (c : Scene) → All (FrameIs P) c.frames → length c.frames ≡ length s.scene.frames → Opens stack s → Opens stack (record s { scene = c })
+  with_frames stack s c framed same h = record { told = h.told; opens = h.opens; inside = h.inside; few = h.few; begun = h.begun; framed = framed; live = same ∙ h.live }
 
-  popped_good : (stack : List Pending) (s : State) → Opens stack s → Opens stack (popped s)
-  popped_good stack s h = with_frames stack s (pop_frame s.scene) (all_popped P s.scene h.framed) h
+  less_one : (n k : ℕ) → n ≡ suc k → n - 1 ≡ k
+  less_one n k e = omega (arith, e)
+
+  -- the innermost call is over
+  popped_good : (k : ℕ) (f : Frame) (stack : List Pending) (s : State) → Opens (InCall k f ∷ stack) s → Opens stack (popped s)
+  popped_good k f stack s h = record {
+    told = h.told;
+    opens = h.opens;
+    inside = h.inside;
+    few = h.few;
+    begun = All-tail (FrameIs P) f (called stack) h.begun;
+    framed = all_popped P s.scene h.framed;
+    live = length-take-le (length s.scene.frames - 1) s.scene.frames (omega arith) ∙ less_one (length s.scene.frames) (length (called stack)) h.live;
+  }
 
   assigned_good : (stack : List Pending) (x : Meaning) (a : Value) (s : State) → Opens stack s → Opens stack (assigned x a s)
   assigned_good stack (Local up slot) a s h =
-      with_frames stack s (set_variable s.scene up slot a) (all_written P s.scene (slice_get (blocks_of (frame_of s.scene.frames 0)) up) slot a h.framed) h
+      with_frames stack s (set_variable s.scene up slot a) (all_written P s.scene (slice_get (blocks_of (frame_of s.scene.frames 0)) up) slot a h.framed)
+      (length_written s.scene (slice_get (blocks_of (frame_of s.scene.frames 0)) up) slot a) h
   assigned_good stack (Means i) a s h = h
   assigned_good stack Nothing a s h = h
 
@@ -142,15 +156,20 @@ module _ (P : ℕ → Type 0) (p : Program) (inside : (n : ℕ) → n < length p
     few = h.few;
     begun = All-cons (FrameIs P) f (called stack) is h.begun;
     framed = all_pushed P f s.scene is h.framed;
+    live = length_push s.scene.frames f ∙ omega (arith, h.live);
   }
 
   -- ---- events
 
-  told_at : (n opened : ℕ) (kind : EventKind) (s : State) → n < nodes → All (FrameIs P) s.scene.frames → IsToldAt P nodes (record { event = record { number = length s.events; kind = kind; node = n; opened = opened; depth = length s.scene.frames }; scene = standing n s.scene })
-  told_at n opened kind s below framed = (below, sym (length_of_changed s.scene.frames _ _), all_standing P n s.scene (inside n below) framed)
+  told_at : (n opened : ℕ) (kind : EventKind) (s : State) → n < nodes → All (FrameIs P) s.scene.frames → 0 < length s.scene.frames → IsToldAt P nodes (record { event = record { number = length s.events; kind = kind; node = n; opened = opened; depth = length s.scene.frames }; scene = standing n s.scene })
+  told_at n opened kind s below framed some = (below, sym (length_of_changed s.scene.frames _ _), all_standing P n s.scene (inside n below) framed, standing_at_first n s.scene some)
 
-  ended_good : (n opened : ℕ) (kind : EventKind) (stack : List Pending) (s : State) → IsEnd kind → Opens (Leaving n opened ∷ stack) s → Opens stack (tell n opened kind s)
-  ended_good n opened kind stack s end h =
+  -- in a call there is a frame
+  some_frame : (stack : List Pending) (s : State) → IsInCall stack → Opens stack s → 0 < length s.scene.frames
+  some_frame stack s b h = omega (arith, h.live, some_called stack b)
+
+  ended_good : (n opened : ℕ) (kind : EventKind) (stack : List Pending) (s : State) → IsEnd kind → IsInCall stack → Opens (Leaving n opened ∷ stack) s → Opens stack (tell n opened kind s)
+  ended_good n opened kind stack s end b h =
       let e : Event = record { number = length s.events; kind = kind; node = n; opened = opened; depth = length s.scene.frames } in
       let t : Told = record { event = e; scene = standing n s.scene } in
       let innermost = ends_innermost e (leaving stack) (open_after [] s.events) h.opens in
@@ -158,7 +177,7 @@ module _ (P : ℕ → Type 0) (p : Program) (inside : (n : ℕ) → n < length p
       record {
         told = record {
           in_order = order_push s.events t h.told.in_order (refl, end_fits kind e (open_after [] s.events) end innermost.0);
-          placed = All-push (IsToldAt P nodes) s.events t h.told.placed (told_at n opened kind s (All-head (λ w. w.0 < nodes) (n, opened) (leaving stack) h.inside) h.framed);
+          placed = All-push (IsToldAt P nodes) s.events t h.told.placed (told_at n opened kind s (All-head (λ w. w.0 < nodes) (n, opened) (leaving stack) h.inside) h.framed (some_frame (Leaving n opened ∷ stack) s b h));
           bound = omega (arith, size, h.few);
         };
         opens = innermost.1 ∙ ap (map place_of) (sym (open_push [] s.events t ∙ end_closes kind e (open_after [] s.events) end));
@@ -166,17 +185,18 @@ module _ (P : ℕ → Type 0) (p : Program) (inside : (n : ℕ) → n < length p
         few = omega (arith, size, h.few);
         begun = h.begun;
         framed = h.framed;
+        live = h.live;
       }
 
-  enter_good : (n left : ℕ) (stack : List Pending) (s : State) → suc left ≡ s.left → n < nodes → Opens stack s → Opens (Leaving n (length s.events) ∷ stack) (tell n (length s.events) Enter (record s { left = left }))
-  enter_good n left stack s fuel_is below h =
+  enter_good : (n left : ℕ) (stack : List Pending) (s : State) → suc left ≡ s.left → n < nodes → IsInCall stack → Opens stack s → Opens (Leaving n (length s.events) ∷ stack) (tell n (length s.events) Enter (record s { left = left }))
+  enter_good n left stack s fuel_is below b h =
       let e : Event = record { number = length s.events; kind = Enter; node = n; opened = length s.events; depth = length s.scene.frames } in
       let t : Told = record { event = e; scene = standing n s.scene } in
       let size : length (s.events ++ t ∷ []) ≡ length s.events + 1 = length_push s.events t in
       record {
         told = record {
           in_order = order_push s.events t h.told.in_order (refl, refl);
-          placed = All-push (IsToldAt P nodes) s.events t h.told.placed (told_at n (length s.events) Enter s below h.framed);
+          placed = All-push (IsToldAt P nodes) s.events t h.told.placed (told_at n (length s.events) Enter s below h.framed (some_frame stack s b h));
           bound = omega (arith, size, h.few, fuel_is);
         };
         opens = ap (λ ws. (n, length s.events) ∷ ws) h.opens ∙ ap (map place_of) (sym (open_push [] s.events t));
@@ -184,10 +204,11 @@ module _ (P : ℕ → Type 0) (p : Program) (inside : (n : ℕ) → n < length p
         few = omega (arith, size, h.few, fuel_is);
         begun = h.begun;
         framed = h.framed;
+        live = h.live;
       }
 
   less_fuel : (left : ℕ) (stack : List Pending) (s : State) → suc left ≡ s.left → Opens stack s → Opens stack (record s { left = left })
-  less_fuel left stack s fuel_is h = record { told = h.told; opens = h.opens; inside = h.inside; few = omega (arith, h.few, fuel_is); begun = h.begun; framed = h.framed }
+  less_fuel left stack s fuel_is h = record { told = h.told; opens = h.opens; inside = h.inside; few = omega (arith, h.few, fuel_is); begun = h.begun; framed = h.framed; live = h.live }
 
   -- ---- what a node makes of its values
 
@@ -214,7 +235,7 @@ module _ (P : ℕ → Type 0) (p : Program) (inside : (n : ℕ) → n < length p
   -- ---- calls, at a node where a frame may stand
 
   depth_good : (x : Bool) (n : ℕ) (f : Frame) (stack : List Pending) (s : State) → P n → FrameIs P f → Opens stack s → Good (depth_checked x n f stack s)
-  depth_good true n f stack s at is h = begun_good f stack (record s { scene = standing n s.scene }) is (with_frames stack s (standing n s.scene) (all_standing P n s.scene at h.framed) h)
+  depth_good true n f stack s at is h = begun_good f stack (record s { scene = standing n s.scene }) is (with_frames stack s (standing n s.scene) (all_standing P n s.scene at h.framed) (length_of_changed s.scene.frames _ _) h)
   depth_good false n f stack s at is h = h
 
   arguments_good : (n root : ℕ) (node : Node) (x : Result (List Value) Fault) (stack : List Pending) (s : State) → P n → P root → Opens stack s → Good (arguments_checked n root node x stack s)
@@ -292,22 +313,19 @@ module _ (P : ℕ → Type 0) (p : Program) (inside : (n : ℕ) → n < length p
   truth_good n (Truth false) m m' stack s h g k = k
   truth_good n _ m m' stack s h g k = h
 
-  uncalled : (k : ℕ) (f : Frame) (stack : List Pending) (s : State) → Opens (InCall k f ∷ stack) s → Opens stack s
-  uncalled k f stack s h = record { told = h.told; opens = h.opens; inside = h.inside; few = h.few; begun = All-tail (FrameIs P) f (called stack) h.begun; framed = h.framed }
-
-  value_good : (x : Pending) (a : Value) (stack : List Pending) (s : State) → Opens (x ∷ stack) s → Good (value_came p v x a stack s)
-  value_good (Leaving n opened) a stack s h = obeyed_good (verdict_on p v n Call (length s.events)) (Coming (Gives a)) stack (tell n opened (Gave a) s) (ended_good n opened (Gave a) stack s tt h)
-  value_good (Operand n values i) a stack s h = parts_good n (node_at p n).children i (values ++ a ∷ []) stack s h
-  value_good Catching a stack s h = h
-  value_good (Choosing n block) a stack s h = truth_good n a (machine (Entering block) stack s) (machine (Coming (Gives Null)) stack s) stack s h h h
-  value_good (ChoosingBetween n block other) a stack s h = truth_good n a (machine (Entering block) stack s) (machine (Entering other) stack s) stack s h h h
-  value_good (Testing n test block) a stack s h = truth_good n a (machine (Entering block) (Turning n test block ∷ stack) s) (machine (Coming (Gives Null)) stack s) stack s h h h
-  value_good (Turning n test block) a stack s h = h
-  value_good (LeftSide true n r) a stack s h = truth_good n a (machine (Coming (Gives (Truth true))) stack s) (machine (Entering r) (RightSide n ∷ stack) s) stack s h h h
-  value_good (LeftSide false n r) a stack s h = truth_good n a (machine (Entering r) (RightSide n ∷ stack) s) (machine (Coming (Gives (Truth false))) stack s) stack s h h h
-  value_good (RightSide n) a stack s h = truth_good n a (machine (Coming (Gives (Truth true))) stack s) (machine (Coming (Gives (Truth false))) stack s) stack s h h h
-  value_good (InCall k f) a stack s h = popped_good stack s (uncalled k f stack s h)
-  value_good Dropping a stack s h = h
+  value_good : (x : Pending) (a : Value) (stack : List Pending) (s : State) → IsInCall (x ∷ stack) → Opens (x ∷ stack) s → Good (value_came p v x a stack s)
+  value_good (Leaving n opened) a stack s b h = obeyed_good (verdict_on p v n Call (length s.events)) (Coming (Gives a)) stack (tell n opened (Gave a) s) (ended_good n opened (Gave a) stack s tt b h)
+  value_good (Operand n values i) a stack s b h = parts_good n (node_at p n).children i (values ++ a ∷ []) stack s h
+  value_good Catching a stack s b h = h
+  value_good (Choosing n block) a stack s b h = truth_good n a (machine (Entering block) stack s) (machine (Coming (Gives Null)) stack s) stack s h h h
+  value_good (ChoosingBetween n block other) a stack s b h = truth_good n a (machine (Entering block) stack s) (machine (Entering other) stack s) stack s h h h
+  value_good (Testing n test block) a stack s b h = truth_good n a (machine (Entering block) (Turning n test block ∷ stack) s) (machine (Coming (Gives Null)) stack s) stack s h h h
+  value_good (Turning n test block) a stack s b h = h
+  value_good (LeftSide true n r) a stack s b h = truth_good n a (machine (Coming (Gives (Truth true))) stack s) (machine (Entering r) (RightSide n ∷ stack) s) stack s h h h
+  value_good (LeftSide false n r) a stack s b h = truth_good n a (machine (Entering r) (RightSide n ∷ stack) s) (machine (Coming (Gives (Truth false))) stack s) stack s h h h
+  value_good (RightSide n) a stack s b h = truth_good n a (machine (Coming (Gives (Truth true))) stack s) (machine (Coming (Gives (Truth false))) stack s) stack s h h h
+  value_good (InCall k f) a stack s b h = popped_good k f stack s h
+  value_good Dropping a stack s b h = h
 
   again_good : (x : Bool) (m : ℕ) (f : Frame) (stack : List Pending) (s : State) → FrameIs P f → Opens stack s → Good (call_again x m f stack s)
   again_good true m f stack s is h = begun_good f stack s is h
@@ -318,66 +336,66 @@ module _ (P : ℕ → Type 0) (p : Program) (inside : (n : ℕ) → n < length p
   given_good false a m stack s h = h
 
   call_good : (k : ℕ) (f : Frame) (r : NodeResult) (stack : List Pending) (s : State) → Stands (Coming r) (InCall k f ∷ stack) s → Good (other_came p v (InCall k f) r stack s)
-  call_good k f (Unwinds m None) stack s h = again_good (m == k) m f stack (popped s) (All-head (FrameIs P) f (called stack) h.begun) (popped_good stack s (uncalled k f stack s h))
-  call_good k f (Unwinds m (Some a)) stack s h = given_good (m == k) a m stack (popped s) (popped_good stack s (uncalled k f stack s h))
+  call_good k f (Unwinds m None) stack s h = again_good (m == k) m f stack (popped s) (All-head (FrameIs P) f (called stack) h.begun) (popped_good k f stack s h)
+  call_good k f (Unwinds m (Some a)) stack s h = given_good (m == k) a m stack (popped s) (popped_good k f stack s h)
   call_good k f (Stops x) stack s h = h
-  call_good k f (Gives a) stack s h = popped_good stack s (uncalled k f stack s h)
-  call_good k f (Returns a) stack s h = popped_good stack s (uncalled k f stack s h)
-  call_good k f Breaks stack s h = popped_good stack s (uncalled k f stack s h)
-  call_good k f Continues stack s h = popped_good stack s (uncalled k f stack s h)
-  call_good k f (Faults g n) stack s h = popped_good stack s (uncalled k f stack s h)
+  call_good k f (Gives a) stack s h = popped_good k f stack s h
+  call_good k f (Returns a) stack s h = popped_good k f stack s h
+  call_good k f Breaks stack s h = popped_good k f stack s h
+  call_good k f Continues stack s h = popped_good k f stack s h
+  call_good k f (Faults g n) stack s h = popped_good k f stack s h
 
-  leave_good : (n opened : ℕ) (r : NodeResult) (stack : List Pending) (s : State) → Stands (Coming r) (Leaving n opened ∷ stack) s → Good (other_came p v (Leaving n opened) r stack s)
-  leave_good n opened (Gives a) stack s h = settled_good stack _ (heed_good a (verdict_on p v n Call (length s.events)) stack (tell n opened (Gave a) s) (ended_good n opened (Gave a) stack s tt h))
-  leave_good n opened (Returns a) stack s h = ended_good n opened (Leave Returning) stack s tt h
-  leave_good n opened Breaks stack s h = ended_good n opened (Leave Breaking) stack s tt h
-  leave_good n opened Continues stack s h = ended_good n opened (Leave Continuing) stack s tt h
-  leave_good n opened (Faults f m) stack s h = ended_good n opened (Leave (Faulting f)) stack s tt h
-  leave_good n opened (Unwinds k a) stack s h = ended_good n opened (Leave Unwinding) stack s tt h
-  leave_good n opened (Stops x) stack s h = h
+  leave_good : (n opened : ℕ) (r : NodeResult) (stack : List Pending) (s : State) → IsInCall stack → Stands (Coming r) (Leaving n opened ∷ stack) s → Good (other_came p v (Leaving n opened) r stack s)
+  leave_good n opened (Gives a) stack s b h = settled_good stack _ (heed_good a (verdict_on p v n Call (length s.events)) stack (tell n opened (Gave a) s) (ended_good n opened (Gave a) stack s tt b h))
+  leave_good n opened (Returns a) stack s b h = ended_good n opened (Leave Returning) stack s tt b h
+  leave_good n opened Breaks stack s b h = ended_good n opened (Leave Breaking) stack s tt b h
+  leave_good n opened Continues stack s b h = ended_good n opened (Leave Continuing) stack s tt b h
+  leave_good n opened (Faults f m) stack s b h = ended_good n opened (Leave (Faulting f)) stack s tt b h
+  leave_good n opened (Unwinds k a) stack s b h = ended_good n opened (Leave Unwinding) stack s tt b h
+  leave_good n opened (Stops x) stack s b h = h
 
-  other_good : (x : Pending) (r : NodeResult) (stack : List Pending) (s : State) → Stands (Coming r) (x ∷ stack) s → Good (other_came p v x r stack s)
-  other_good (Leaving n opened) r stack s h = leave_good n opened r stack s h
-  other_good (Operand n values i) r stack s h = h
-  other_good Catching (Returns a) stack s h = h
-  other_good Catching r stack s h = h
-  other_good (Choosing n block) r stack s h = h
-  other_good (ChoosingBetween n block other) r stack s h = h
-  other_good (Testing n test block) r stack s h = h
-  other_good (Turning n test block) Continues stack s h = h
-  other_good (Turning n test block) Breaks stack s h = h
-  other_good (Turning n test block) r stack s h = h
-  other_good (LeftSide x n right) r stack s h = h
-  other_good (RightSide n) r stack s h = h
-  other_good (InCall k f) r stack s h = call_good k f r stack s h
-  other_good Dropping r stack s h = h
+  other_good : (x : Pending) (r : NodeResult) (stack : List Pending) (s : State) → IsInCall (x ∷ stack) → Stands (Coming r) (x ∷ stack) s → Good (other_came p v x r stack s)
+  other_good (Leaving n opened) r stack s b h = leave_good n opened r stack s b h
+  other_good (Operand n values i) r stack s b h = h
+  other_good Catching (Returns a) stack s b h = h
+  other_good Catching r stack s b h = h
+  other_good (Choosing n block) r stack s b h = h
+  other_good (ChoosingBetween n block other) r stack s b h = h
+  other_good (Testing n test block) r stack s b h = h
+  other_good (Turning n test block) Continues stack s b h = h
+  other_good (Turning n test block) Breaks stack s b h = h
+  other_good (Turning n test block) r stack s b h = h
+  other_good (LeftSide x n right) r stack s b h = h
+  other_good (RightSide n) r stack s b h = h
+  other_good (InCall k f) r stack s b h = call_good k f r stack s h
+  other_good Dropping r stack s b h = h
 
-  coming_good : (r : NodeResult) (stack : List Pending) (s : State) → Stands (Coming r) stack s → Good (coming_turn p v r stack s)
-  coming_good r [] s h = h
-  coming_good (Gives a) (x ∷ stack) s h = value_good x a stack s h
-  coming_good r (x ∷ stack) s h = other_good x r stack s h
+  coming_good : (r : NodeResult) (stack : List Pending) (s : State) → RestsOnCall stack → Stands (Coming r) stack s → Good (coming_turn p v r stack s)
+  coming_good r [] s b h = h
+  coming_good (Gives a) (x ∷ stack) s b h = value_good x a stack s b h
+  coming_good r (x ∷ stack) s b h = other_good x r stack s b h
 
-  entered_good : (n left : ℕ) (tags : List Tag) (stack : List Pending) (s : State) → (node_at p n).tags ≡ tags → suc left ≡ s.left → Opens stack s → Good (entered p v n tags stack (record s { left = left }))
-  entered_good n left [] stack s e fuel_is h = less_fuel left stack s fuel_is h
-  entered_good n left (t ∷ ts) stack s e fuel_is h =
+  entered_good : (n left : ℕ) (tags : List Tag) (stack : List Pending) (s : State) → (node_at p n).tags ≡ tags → suc left ≡ s.left → IsInCall stack → Opens stack s → Good (entered p v n tags stack (record s { left = left }))
+  entered_good n left [] stack s e fuel_is b h = less_fuel left stack s fuel_is h
+  entered_good n left (t ∷ ts) stack s e fuel_is b h =
       obeyed_good (verdict_on p v n Statement (length s.events)) (Starting n) (Leaving n (length s.events) ∷ stack) (tell n (length s.events) Enter (record s { left = left }))
-      (enter_good n left stack s fuel_is (tags_inside p n t ts e) h)
+      (enter_good n left stack s fuel_is (tags_inside p n t ts e) b h)
 
-  entering_good : (left n : ℕ) (stack : List Pending) (s : State) → left ≡ s.left → Opens stack s → Good (entering_turn p v left n stack s)
-  entering_good zero n stack s e h = h.told
-  entering_good (suc left) n stack s e h = entered_good n left (node_at p n).tags stack s refl e h
+  entering_good : (left n : ℕ) (stack : List Pending) (s : State) → left ≡ s.left → IsInCall stack → Opens stack s → Good (entering_turn p v left n stack s)
+  entering_good zero n stack s e b h = h.told
+  entering_good (suc left) n stack s e b h = entered_good n left (node_at p n).tags stack s refl e b h
 
-  mode_good : (mode : Mode) (stack : List Pending) (s : State) → Stands mode stack s → Good (mode_turn p v mode stack s)
-  mode_good (Entering n) stack s h = entering_good s.left n stack s refl h
-  mode_good (Starting n) stack s h = starting_good n (node_at p n).kind (node_at p n).children stack s h
-  mode_good (Coming r) stack s h = coming_good r stack s h
+  mode_good : (mode : Mode) (stack : List Pending) (s : State) → IsInCallAt mode stack → Stands mode stack s → Good (mode_turn p v mode stack s)
+  mode_good (Entering n) stack s b h = entering_good s.left n stack s refl b h
+  mode_good (Starting n) stack s b h = starting_good n (node_at p n).kind (node_at p n).children stack s h
+  mode_good (Coming r) stack s b h = coming_good r stack s b h
 
   -- a turn keeps it
-  pub turn_orderly : (m : Machine) → Good m → Good (turn p v m)
+  pub turn_orderly : (m : Machine) → IsOrderly P nodes fuel m → IsOrderly P nodes fuel (turn p v m)
   unfolding turn
-  turn_orderly m h = mode_good m.mode m.stack m.state h
+  turn_orderly m h = (turn_in_call p v m h.0, mode_good m.mode m.stack m.state h.0 h.1)
 
-  pub turns_orderly : (k : ℕ) (m : Machine) → Good m → Good (after_turns p v k m)
+  pub turns_orderly : (k : ℕ) (m : Machine) → IsOrderly P nodes fuel m → IsOrderly P nodes fuel (after_turns p v k m)
   turns_orderly zero m h = h
   turns_orderly (suc k) m h = turns_orderly k (turn p v m) (turn_orderly m h)
 
@@ -388,17 +406,20 @@ module _ (P : ℕ → Type 0) (p : Program) (inside : (n : ℕ) → n < length p
   main_frame false f g h k = k
 
   -- a run begins so
-  pub start_orderly : (most root : ℕ) → most ≤ fuel → P root → Good (start p most root)
+  pub start_orderly : (most root : ℕ) → most ≤ fuel → P root → IsOrderly P nodes fuel (start p most root)
   start_orderly most root enough is =
-      let first : FrameIs P (entry_frame root (node_at p root) (opening p most)) = main_frame (is_main_block (node_at p root).kind (node_at p root).level) _ _ (is, is) (is, is) in
-      record {
-        told = record { in_order = tt; placed = All-nil (IsToldAt P nodes); bound = omega arith };
-        opens = refl;
-        inside = All-nil (λ w. w.0 < nodes);
-        few = omega (arith, enough);
-        begun = All-cons (FrameIs P) _ [] first (All-nil (FrameIs P));
-        framed = All-cons (FrameIs P) _ [] first (All-nil (FrameIs P));
-      }
+      let first : FrameIs P (entry_frame root (node_at p root) (opening p most)) = main_frame (is_main_block (node_at p root).kind (node_at p root).level) _ _ (is, is) (is, is) in (
+        tt,
+        record {
+          told = record { in_order = tt; placed = All-nil (IsToldAt P nodes); bound = omega arith };
+          opens = refl;
+          inside = All-nil (λ w. w.0 < nodes);
+          few = omega (arith, enough);
+          begun = All-cons (FrameIs P) _ [] first (All-nil (FrameIs P));
+          framed = All-cons (FrameIs P) _ [] first (All-nil (FrameIs P));
+          live = refl;
+        },
+      )
 
   over_orderly : (mode : Mode) (stack : List Pending) (s : State) → Stands mode stack s → Told_well s.events
   over_orderly (Entering n) stack s h = h.told
@@ -412,5 +433,5 @@ module _ (P : ℕ → Type 0) (p : Program) (inside : (n : ℕ) → n < length p
   over_orderly (Coming (Stops x)) stack s h = h
 
   -- the events told by a machine so far
-  pub orderly_told : (m : Machine) → Good m → Told_well m.state.events
-  orderly_told m h = over_orderly m.mode m.stack m.state h
+  pub orderly_told : (m : Machine) → IsOrderly P nodes fuel m → Told_well m.state.events
+  orderly_told m h = over_orderly m.mode m.stack m.state h.1

@@ -1,12 +1,12 @@
 -- Definition: in what order the events of a run come, and where they stand.
-use Rattle.std.specs.Prelude.{◌≡◌, ℕ, suc, ◌*◌, ◌<◌, ◌≤◌, List, [], ◌∷◌, length, drop}
+use Rattle.std.specs.Prelude.{◌≡◌, ℕ, suc, ◌*◌, ◌<◌, ◌≤◌, List, [], ◌∷◌, length, drop, Some}
 use Rattle.std.specs.List.{All}
 use Rattle.pd_tree.specs.Program.{Program}
 use Rattle.pd_tree.specs.WellFormed.{IsWellFormed}
 use Rattle.pd_machine.specs.declared.event.Event.{Event}
 use Rattle.pd_machine.specs.declared.event.EventKind.{EventKind}
 use Rattle.pd_machine.specs.declared.event.EventKind.TheVariants.{Enter}
-use Rattle.pd_machine.specs.Events.{Scene, Told}
+use Rattle.pd_machine.specs.Events.{Scene, Told, at_of, frame_of}
 use Rattle.pd_meaning.specs.Meaning.{Verdicts, meaning_of}
 
 -- ---- open activations, each by its Enter, the innermost first
@@ -61,11 +61,12 @@ EventsAreFew = (p : Program) (v : Verdicts) (fuel entry : ℕ) → length (meani
 -- ---- where an event stands
 
 -- in a program with so many nodes, an event is of one of them, and its depth is the number of frames, each of which is of a root among them
--- and stands at one of them
+-- and stands at one of them; there is an innermost frame, and it stands at the event's node
 pub record IsPlaced (nodes : ℕ) (e : Event) (c : Scene) : Type 0 where
   pub node : e.node < nodes
   pub depth : e.depth ≡ length c.frames
   pub frames : All (λ f. (f.root < nodes) × (f.at < nodes)) c.frames
+  pub innermost : at_of (frame_of c.frames 0) ≡ Some e.node
 
 -- the events of each run of a linked program are so placed
 abbrev pub EventsArePlaced : Type 0

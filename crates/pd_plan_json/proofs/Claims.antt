@@ -1,9 +1,9 @@
--- What the tables say of values that no plan that is served has, as worked cases.
+-- What the tables say of some values, as worked cases.
 use Rattle.std.proofs.Common.{◌≡◌, ℕ, pos, negsuc, List, [], ◌∷◌, ◌++◌, Ok, Err, None, true, false, Float, codes, refl}
 use Rattle.serde_json.specs.Data.{unsigned, negative, float, Data, null, boolean, number, string, array, object, no_items, item, no_members, member}
 use Rattle.pd_values.specs.declared.value.Value.TheVariants as values
 use Rattle.pd_plan.specs.declared.refusal.PlanRule.{PlanRule}
-use Rattle.pd_plan.specs.declared.refusal.PlanRule.TheVariants.{Missing, WrongShape, OutOfRange, UnknownWord, UnknownMember, NoSuch, NotAnObserver, BadCondition, NotBuilt}
+use Rattle.pd_plan.specs.declared.refusal.PlanRule.TheVariants.{Missing, WrongShape, OutOfRange, UnknownWord, UnknownMember, NoSuch, NotAnObserver, BadCondition}
 use Rattle.pd_plan.specs.declared.plan.BindingSpec.TheVariants as bindings
 use Rattle.pd_plan.specs.declared.plan.Act.TheVariants.{Attach, Dispose, Enable}
 use Rattle.pd_plan.specs.declared.plan.Action.TheVariants as actions
@@ -14,7 +14,6 @@ use Rattle.pd_condition.specs.Grammar.{between}
 use Rattle.pd_plan.specs.declared.plan.Plan.{Plan}
 use Rattle.pd_plan_json.specs.Reading.{Read, entry_step}
 use Rattle.pd_plan_json.specs.Shapes.{number_in, reference, text_in, list_in, required, optional, with_default, no_other, table_of, one_of}
-use Rattle.pd_plan_json.specs.Served.{session_served, served}
 use Rattle.pd_plan_json.specs.Tables.{export, export_members, breakpoint, breakpoint_members, pause, pause_members, condition, first_act, act, wait_members, first_action, action, given, returning, first_step, stepping, resume, answer, answer_members}
 use Rattle.pd_plan_json.specs.References.{each, act_refers, observed, action_refers, session_refers, refers, binding_refers}
 
@@ -210,15 +209,6 @@ a_plan = record { sources = []; exports = []; contexts = []; bindings = bindings
 no_observer : refers a_plan ≡ refused NotAnObserver (codes "/sessions" ++ (entry_step 0 ++ (codes "/actions" ++ (entry_step 0 ++ codes "/enable"))))
 unfolding refers each binding_refers session_refers action_refers act_refers observed
 no_observer = refl
-
--- what isn't served is told at the place of the first
-no_pause : served a_plan ≡ refused NotBuilt (codes "/bindings" ++ (entry_step 0 ++ codes "/kind"))
-unfolding served each
-no_pause = refl
-
-no_actions : served (record a_plan { bindings = [] }) ≡ refused NotBuilt (codes "/sessions" ++ (entry_step 0 ++ codes "/actions"))
-unfolding served each session_served
-no_actions = refl
 
 no_binding : act_refers a_plan (Enable 1) ≡ refused NoSuch (codes "/enable")
 unfolding act_refers observed

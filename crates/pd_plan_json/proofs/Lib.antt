@@ -4,5 +4,4 @@ pub mod Bytes
 pub mod Numbers
 pub mod Fits
 pub mod Refers
-pub mod Served
 mod Claims

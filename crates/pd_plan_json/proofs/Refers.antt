@@ -14,7 +14,6 @@ use Rattle.pd_plan.specs.Sound.{AllBelow, IsObserver, BreakRefers, BindingRefers
 use Rattle.pd_plan_json.specs.Reading.{Read, ◌>>◌, refuse_if, under, member_step, entry_step}
 use Rattle.pd_plan_json.specs.References.{had, within, each, each_from, export_refers, context_refers, filter_refers, break_refers, binding_refers, act_refers, action_refers, answer_refers, session_refers, is_observer, observed, refers}
 use Rattle.pd_plan_json.specs.Tables.{plan}
-use Rattle.pd_plan_json.specs.Served.{served}
 use Rattle.pd_plan_json.specs.Whole.{plan_of, plan_at, data_of}
 use Rattle.pd_plan_json.proofs.Fits.{bind_ok, under_ok}
 
@@ -126,17 +125,19 @@ plan_shows c e =
       sessions = listed_shows (codes "sessions") (session_refers c) (SessionRefers c.bindings) (session_shows c) c.sessions d.1;
     }
 
-referred_ok : (r s : Read ⊤) (p x : Plan) → (r >> (s >> Ok p)) ≡ Ok x → (r ≡ Ok tt) × (s ≡ Ok tt) × (p ≡ x)
-referred_ok (Ok u) (Ok v) p x e = (refl, refl, cc)
-referred_ok (Ok u) (Err r) p x e = absurd cc
-referred_ok (Err r) (Ok u) p x e = absurd cc
-referred_ok (Err r) (Err s) p x e = absurd cc
+referred_ok : (r : Read ⊤) (p x : Plan) → (r >> Ok p) ≡ Ok x → (r ≡ Ok tt) × (p ≡ x)
+referred_ok (Ok u) p x e = (refl, cc)
+referred_ok (Err r) p x e = absurd cc
 
--- what is read refers to what it has and is served, and is what the walk of the value gave
-pub plan_refers : (bytes : List ℕ) (p : Plan) → plan_at bytes ≡ Ok p → (d : Data) × (plan d ≡ Ok p) × PlanRefers p × (served p ≡ Ok tt)
+-- what is read refers to what it has, and is what the walk of the value gave
+plan_refers : (bytes : List ℕ) (p : Plan) → plan_at bytes ≡ Ok p → (d : Data) × (plan d ≡ Ok p) × PlanRefers p
 unfolding plan_at plan_of
 plan_refers bytes p e =
     let d = bind_ok (data_of bytes) plan_of p e in
     let q = bind_ok (plan d.0) _ p d.2 in
-    let r = referred_ok (refers q.0) (served q.0) q.0 p q.2 in
-    subst (λ p. (d : Data) × (plan d ≡ Ok p) × PlanRefers p × (served p ≡ Ok tt)) r.2 (d.0, q.1, plan_shows q.0 r.0, r.1)
+    let r = referred_ok (refers q.0) q.0 p q.2 in
+    subst (λ p. (d : Data) × (plan d ≡ Ok p) × PlanRefers p) r.1 (d.0, q.1, plan_shows q.0 r.0)
+
+-- the plans that are read are sound
+pub plan_is_sound : (bytes : List ℕ) (p : Plan) → plan_at bytes ≡ Ok p → IsSound p
+plan_is_sound bytes p e = let r = plan_refers bytes p e in record { fits = plan_fits r.0 p r.1; refers = r.2 }

@@ -6,7 +6,6 @@ mod members;
 mod program;
 mod reader;
 mod references;
-mod serving;
 mod sessions;
 mod shapes;
 mod tables;

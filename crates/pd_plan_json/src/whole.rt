@@ -4,11 +4,9 @@ ghost use Rattle.pd_plan.specs.Sound.{IsSound};
 ghost use Rattle.serde_json.specs.View.{view};
 ghost use Rattle.pd_plan_json.specs.Reading.{Gives, GivesBy};
 ghost use Rattle.pd_plan_json.specs.Whole.{data_of, plan_of, plan_at};
-ghost use Rattle.pd_plan_json.specs.Served.{IsServed};
 
 use crate::reader::refusal;
 use crate::references::check_references;
-use crate::serving::check_served;
 use crate::tables::plan_in;
 use pd_plan::{Plan, PlanRefusal, PlanRule};
 use pd_values::Stop;
@@ -40,17 +38,15 @@ fn plan_from(alloc: Global, bytes: &[u8]) -> Result<Plan, Stop<PlanRefusal>>
     let value = value_of(alloc, bytes)?;
     let plan = plan_in(alloc, &value)?;
     check_references(alloc, &plan)?;
-    check_served(alloc, &plan)?;
     Ok(plan)
 }
 
 /// The plan that the bytes are, as JSON; or the first broken rule with its path, in the order of docs/FORMATS.md.
 /// Memory may run out at any point: then `Stop::Memory`.
-#[tactic(auto, using(crate::proofs::Served::plan_is_sound, crate::proofs::Served::plan_is_served))]
+#[tactic(auto, using(crate::proofs::Refers::plan_is_sound))]
 pub fn read_plan(alloc: Global, bytes: &[u8]) -> Result<Plan, Stop<PlanRefusal>>
     ensures exact { Gives result (plan_at bytes.now) }
     ensures sound { IfOk result IsSound }
-    ensures served { IfOk result IsServed }
 {
     plan_from(alloc, bytes)
 }

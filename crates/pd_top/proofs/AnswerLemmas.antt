@@ -3,7 +3,7 @@ use Rattle.std.proofs.Common.{◌≡◌, ◌∙◌, ℕ, List, refl, ap, sym, su
 use Rattle.std.specs.Prelude.{◌⊎◌}
 use Rattle.pd_plan.specs.declared.plan.Plan.{Plan}
 use Rattle.pd_tree.specs.Program.{Program}
-use Rattle.pd_single_report.specs.declared.report.Report.{Report}
+use Rattle.pd_run.specs.declared.report.Report.{Report}
 use Rattle.pd_words.specs.declared.asked.Command.{Command}
 use Rattle.pd_words.specs.declared.asked.Command.TheVariants.{Trace, Run, Check}
 use Rattle.pd_words.specs.declared.asked.WordFault.{WordFault}

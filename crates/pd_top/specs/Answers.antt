@@ -16,11 +16,11 @@ use Rattle.pd_tree.specs.Program.{Program}
 use Rattle.pd_load.specs.declared.refusal.LoadRefusal.{LoadRefusal}
 use Rattle.pd_load.specs.declared.refusal.LoadCause.{LoadCause}
 use Rattle.pd_load.specs.declared.refusal.LoadCause.TheVariants.{Spelling, NoSuchItem, DoubledExport, NoSuchEntry, NotUtf8}
-use Rattle.pd_single_report.specs.declared.report.Report.{Report}
-use Rattle.pd_single_report.specs.Lines.{joined}
-use Rattle.pd_single_report.specs.Run.{IsRun}
-use Rattle.pd_single_report.specs.Transcript.{AreByPlace, text_of, check_line}
-use Rattle.pd_single_report.specs.Json.{json_of}
+use Rattle.pd_run.specs.declared.report.Report.{Report}
+use Rattle.pd_run.specs.Run.{IsRun}
+use Rattle.pd_report.specs.Lines.{joined}
+use Rattle.pd_report.specs.Transcript.{text_of, check_line}
+use Rattle.pd_report.specs.Json.{json_of}
 use Rattle.pd_words.specs.declared.asked.Command.{Command}
 use Rattle.pd_words.specs.declared.asked.Command.TheVariants.{Trace, Run, Check}
 use Rattle.pd_words.specs.declared.asked.WordFault.{WordFault}
@@ -99,22 +99,21 @@ pub record IsWrittenInPart (writing : Writing) (bytes : List ℕ) : Type 0 where
 
 -- ---- texts
 
--- the transcript of a report, as text or as JSON
-abbrev pub transcript : Bool → Plan → Program → Report → List ℕ
-transcript json plan program report = if json then json_of plan program report else text_of plan program report
+-- the transcript of a report, as text or as JSON, with each log merged into the order of places or context by context
+abbrev pub transcript : Bool → Bool → Plan → Program → Report → List ℕ
+transcript json merged plan program report = if json then json_of plan program report merged else text_of plan program report merged
 
--- A report of the plan's run, with its transcript as text or as JSON. Its logs stand in the order of events and in that of places alike, so
--- `merged` asks for the same text.
-abbrev pub IsTranscript : Bool → Plan → Program → Unwritten → List ℕ → Type 0
-IsTranscript json plan program (unwritten.Ran report) text =
-    IsRun plan program report × AreByPlace report × (text ≡ transcript json plan program report)
-IsTranscript json plan program _ text = ⊥
+-- a report of the plan's run, with its transcript as text or as JSON, with each log merged or context by context
+abbrev pub IsTranscript : Bool → Bool → Plan → Program → Unwritten → List ℕ → Type 0
+IsTranscript json merged plan program (unwritten.Ran report) text =
+    IsRun plan program report × (text ≡ transcript json merged plan program report)
+IsTranscript json merged plan program _ text = ⊥
 
 -- what the command answers for this plan and program, with its whole text: `trace` and `run` a report of the plan's run, `check` the
 -- line that counts
 abbrev pub IsTextOf : Command → Plan → Program → Unwritten → List ℕ → Type 0
-IsTextOf (Trace file) plan program answer text = IsTranscript false plan program answer text
-IsTextOf (Run words) plan program answer text = IsTranscript words.json plan program answer text
+IsTextOf (Trace file) plan program answer text = IsTranscript false false plan program answer text
+IsTextOf (Run words) plan program answer text = IsTranscript words.json words.merged plan program answer text
 IsTextOf (Check file) plan program unwritten.Checked text = text ≡ check_line plan program
 IsTextOf (Check file) plan program _ text = ⊥
 

@@ -1,6 +1,6 @@
 //! From a command to its plan and program.
-ghost use Rattle.std.specs.Prelude.{◌≡◌, ◌≤◌, ◌<◌, length, Ok, IfOk, IfErr, IfSome};
-ghost use Rattle.pd_plan_json.specs.Served.{IsServed};
+ghost use Rattle.std.specs.Prelude.{◌≡◌, ◌≤◌, length, Ok, IfOk, IfErr, IfSome};
+ghost use Rattle.pd_plan.specs.Sound.{IsSound};
 ghost use Rattle.pd_words.specs.Words.{HasFuelInRange, IsFuel};
 ghost use Rattle.pd_top.specs.Files.{read_between, IsGrown};
 ghost use Rattle.pd_top.specs.Causes.{IsPlanRead, IsRunPlan, IsPlanOf, IsCause, accepted};
@@ -29,7 +29,7 @@ pub(crate) struct Accepted {
 // The plan in the file of this name.
 fn plan_in<L: Library>(alloc: Global, name: &str, files: &mut L) -> Result<Plan, Outcome>
     ensures plan { IfOk result (λ plan. IsPlanRead (read_between L.held L.given files.old files.new) name.now (Ok plan)) }
-    ensures served { IfOk result IsServed }
+    ensures sound { IfOk result IsSound }
     ensures stopped { IfErr result (StopsPlan (read_between L.held L.given files.old files.new) name.now (L.faults files.old) (L.faults files.new) (L.last_fault files.new)) }
     ensures held { L.held files.new ≡ L.held files.old }
     ensures given { IsGrown (L.given files.old) (L.given files.new) }
@@ -47,7 +47,7 @@ fn plan_in<L: Library>(alloc: Global, name: &str, files: &mut L) -> Result<Plan,
 fn run_plan_of<L: Library>(alloc: Global, words: &RunWords, files: &mut L) -> Result<Plan, Outcome>
     requires fuel { IfSome words.now.fuel IsFuel }
     ensures plan { IfOk result (IsRunPlan (read_between L.held L.given files.old files.new) words.now) }
-    ensures served { IfOk result IsServed }
+    ensures sound { IfOk result IsSound }
     ensures stopped { IfErr result (StopsPlan (read_between L.held L.given files.old files.new) words.now.plan (L.faults files.old) (L.faults files.new) (L.last_fault files.new)) }
     ensures held { L.held files.new ≡ L.held files.old }
     ensures given { IsGrown (L.given files.old) (L.given files.new) }
@@ -61,7 +61,7 @@ fn run_plan_of<L: Library>(alloc: Global, words: &RunWords, files: &mut L) -> Re
 fn plan_of<L: Library>(alloc: Global, command: &Command, files: &mut L) -> Result<Plan, Outcome>
     requires fuel { HasFuelInRange command.now }
     ensures plan { IfOk result (IsPlanOf (read_between L.held L.given files.old files.new) command.now) }
-    ensures served { IfOk result IsServed }
+    ensures sound { IfOk result IsSound }
     ensures stopped { IfErr result (StopsAccepting (read_between L.held L.given files.old files.new) command.now (L.faults files.old) (L.faults files.new) (L.last_fault files.new)) }
     ensures held { L.held files.new ≡ L.held files.old }
     ensures given { IsGrown (L.given files.old) (L.given files.new) }
@@ -82,8 +82,8 @@ pub(crate) fn accept<L: Library>(
 ) -> Result<Accepted, Outcome>
     requires fuel { HasFuelInRange command.now }
     ensures accepted { IfOk result (λ both. IsCause (read_between L.held L.given files.old files.new) command.now (accepted both.plan both.program)) }
-    ensures served { IfOk result (λ both. IsServed both.plan) }
-    ensures entry { IfOk result (λ both. 0 < length both.program.entries) }
+    ensures sound { IfOk result (λ both. IsSound both.plan) }
+    ensures entries { IfOk result (λ both. length both.program.entries ≡ length both.plan.contexts) }
     ensures stopped { IfErr result (StopsAccepting (read_between L.held L.given files.old files.new) command.now (L.faults files.old) (L.faults files.new) (L.last_fault files.new)) }
     ensures held { L.held files.new ≡ L.held files.old }
     ensures given { IsGrown (L.given files.old) (L.given files.new) }

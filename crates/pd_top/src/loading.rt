@@ -1,5 +1,5 @@
 //! From the files of a plan to its program.
-ghost use Rattle.std.specs.Prelude.{◌≡◌, ◌≤◌, ◌<◌, length, IfOk, OnOk, IfErr};
+ghost use Rattle.std.specs.Prelude.{◌≡◌, ◌≤◌, length, IfOk, OnOk, IfErr};
 ghost use Rattle.std.specs.List.{AllByRecursion};
 ghost use Rattle.pd_plan.specs.Sound.{IsSound};
 ghost use Rattle.pd_load.specs.Tables.{IsText};
@@ -52,10 +52,9 @@ pub(crate) fn program_of(
 ) -> Result<Program, Stop<LoadRefusal>>
     requires sound { IsSound plan.now }
     requires each { length files.items ≡ length plan.now.sources }
-    requires one { length plan.now.contexts ≡ 1 }
     ensures texts { OnOk result (AllByRecursion IsText files.items) }
     ensures loaded { IfOk result (IsLoaded plan.now files.items) }
-    ensures entry { IfOk result (λ program. 0 < length program.entries) }
+    ensures entries { IfOk result (λ program. length program.entries ≡ length plan.now.contexts) }
     ensures refused { IfErr result (StopsLoad plan.now files.items) }
 {
     let sources = sources_of(alloc, files)?;

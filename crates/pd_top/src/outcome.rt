@@ -4,8 +4,8 @@ ghost use Rattle.pd_top.specs.Answers.{is_done, report_status, usage_message, pl
 
 use pd_load::{LoadCause, LoadRefusal};
 use pd_plan::{PlanRefusal, PlanRule};
+use pd_report::Report;
 use pd_sections::Rule;
-use pd_single_report::Report;
 use pd_values::{End, Text};
 use pd_words::WordFault;
 use std::alloc::{AllocError, AllocFailed, Global};

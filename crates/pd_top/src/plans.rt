@@ -1,6 +1,6 @@
 //! The plan that `trace` runs.
 ghost use Rattle.std.specs.Prelude.{◌≡◌, [], ◌∷◌, IfOk};
-ghost use Rattle.pd_plan_json.specs.Served.{IsServed};
+ghost use Rattle.pd_plan.specs.Sound.{IsSound};
 ghost use Rattle.pd_top.specs.Plans.{is_pl0_name, language_of, statements, trace_plan};
 
 use pd_plan::{BindingSpec, ContextSpec, Filter, Language, Plan, Script, SourceSpec};
@@ -59,7 +59,7 @@ fn language_of(name: &str) -> Language
 /// session attaches before the run.
 pub(crate) fn trace_plan(alloc: Global, name: &str) -> Result<Plan, AllocError>
     ensures plan { IfOk result (λ plan. plan ≡ trace_plan name.now) }
-    ensures served { IfOk result IsServed }
+    ensures sound { IfOk result IsSound }
 {
     let source = SourceSpec {
         name: Text::of(String::from_str(alloc, name)?),

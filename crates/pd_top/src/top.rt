@@ -1,7 +1,7 @@
 //! The top call.
 ghost use Rattle.std.specs.Prelude.{◌≡◌, ◌≤◌, ◌<◌, ◌⊎◌, ℕ, true, false, Err, length, Ok, IfOk, IfErr, OnOk, OnErr};
-ghost use Rattle.pd_plan_json.specs.Served.{IsServed};
-ghost use Rattle.pd_single_report.specs.Run.{IsRun};
+ghost use Rattle.pd_plan.specs.Sound.{IsSound};
+ghost use Rattle.pd_run.specs.Run.{IsRun};
 ghost use Rattle.pd_words.specs.declared.asked.WordFault.{WordFault};
 ghost use Rattle.pd_words.specs.Words.{texts, command_of, HasFuelInRange};
 ghost use Rattle.pd_top.specs.Files.{IsGrown};
@@ -10,9 +10,9 @@ ghost use Rattle.pd_top.specs.Answers.{Reading, reading_of, writing_of, IsWritte
 
 use crate::accepting::{Accepted, accept};
 use crate::outcome::{Outcome, Unwritten};
+use pd_host::run_plan;
 use pd_outside::{Failed, Gate, Library, Sink};
-use pd_single_host::run_plan;
-use pd_single_report::{Report, check_line, json_of, text_of};
+use pd_report::{Report, check_line, json_of, text_of};
 use pd_values::{Stop, Text};
 use pd_words::{Command, WordFault, read_words};
 use std::alloc::{AllocError, Global};
@@ -44,37 +44,41 @@ struct Prepared {
     text: Text,
 }
 
-// The transcript of a report, as text or as JSON.
+// The transcript of a report, as text or as JSON, with each log merged or context by context.
 fn transcript(
     alloc: Global,
     json: bool,
+    merged: bool,
     report: &Report,
     accepted: &Accepted,
 ) -> Result<Text, AllocError>
     requires run { IsRun accepted.now.plan accepted.now.program report.now }
-    ensures { IfOk result (λ text. text ≡ transcript json accepted.now.plan accepted.now.program report.now) }
+    ensures { IfOk result (λ text. text ≡ transcript json merged accepted.now.plan accepted.now.program report.now) }
 {
     let Accepted { plan, program } = accepted;
     if json {
-        json_of(alloc, report, plan, program)
+        json_of(alloc, report, plan, program, merged)
     } else {
-        text_of(alloc, report, plan, program)
+        text_of(alloc, report, plan, program, merged)
     }
 }
 
-// The report of a plan's run, with its transcript as text or as JSON. Nothing is written here.
-fn ran<G: Gate>(
+// The report of a plan's run, with its transcript as text or as JSON, with each log merged or context by context.
+// Nothing is written here.
+fn ran<R: Threads + Sync, G: Gate>(
+    rt: &R,
     alloc: Global,
     accepted: &Accepted,
     json: bool,
+    merged: bool,
     gate: &G,
 ) -> Result<Prepared, AllocError>
-    requires served { IsServed accepted.now.plan }
-    requires entry { 0 < length accepted.now.program.entries }
-    ensures { IfOk result (λ p. IsTranscript json accepted.now.plan accepted.now.program p.answer p.text) }
+    requires sound { IsSound accepted.now.plan }
+    requires entries { length accepted.now.program.entries ≡ length accepted.now.plan.contexts }
+    ensures { IfOk result (λ p. IsTranscript json merged accepted.now.plan accepted.now.program p.answer p.text) }
 {
-    let report = run_plan(alloc, &accepted.plan, &accepted.program, gate)?;
-    let text = transcript(alloc, json, &report, accepted)?;
+    let report = run_plan(rt, alloc, &accepted.plan, &accepted.program, gate)?;
+    let text = transcript(alloc, json, merged, &report, accepted)?;
     Ok(Prepared {
         answer: Unwritten::Ran(report),
         text,
@@ -82,19 +86,20 @@ fn ran<G: Gate>(
 }
 
 // The answer of a command, with its text, for a plan and its program. Nothing is written here.
-fn answer_of<G: Gate>(
+fn answer_of<R: Threads + Sync, G: Gate>(
+    rt: &R,
     alloc: Global,
     command: &Command,
     accepted: &Accepted,
     gate: &G,
 ) -> Result<Prepared, AllocError>
-    requires served { IsServed accepted.now.plan }
-    requires entry { 0 < length accepted.now.program.entries }
+    requires sound { IsSound accepted.now.plan }
+    requires entries { length accepted.now.program.entries ≡ length accepted.now.plan.contexts }
     ensures { IfOk result (λ p. IsTextOf command.now accepted.now.plan accepted.now.program p.answer p.text) }
 {
     match command {
-        Command::Trace(_) => ran(alloc, accepted, false, gate),
-        Command::Run(words) => ran(alloc, accepted, words.json, gate),
+        Command::Trace(_) => ran(rt, alloc, accepted, false, false, gate),
+        Command::Run(words) => ran(rt, alloc, accepted, words.json, words.merged, gate),
         Command::Check(_) => Ok(Prepared {
             answer: Unwritten::Checked,
             text: check_line(alloc, &accepted.plan, &accepted.program)?,
@@ -116,7 +121,8 @@ fn command_in(alloc: Global, words: &[String]) -> Result<Command, Outcome>
 }
 
 // Does a command up to its text. An `Err` is the answer of a command that comes to no text.
-fn prepare<L: Library, G: Gate>(
+fn prepare<R: Threads + Sync, L: Library, G: Gate>(
+    rt: &R,
     alloc: Global,
     words: &[String],
     files: &mut L,
@@ -132,7 +138,7 @@ fn prepare<L: Library, G: Gate>(
 {
     let command = command_in(alloc, words)?;
     let accepted = accept(alloc, &command, files)?;
-    Ok(answer_of(alloc, &command, &accepted, gate)?)
+    Ok(answer_of(rt, alloc, &command, &accepted, gate)?)
 }
 
 // Writes the text of an answer.
@@ -155,18 +161,24 @@ fn write_answer<K: Sink>(out: &mut K, prepared: Prepared) -> Outcome
 /// Does a command: reads the words and the files, makes the whole text and writes it in pieces. The order is: words, the
 /// plan's file, plan, the file of each source, whether all sources are UTF-8, load, run, text, write.
 ///
-/// `_rt` isn't used. The gate is asked at each event. Of a file at most 1,048,577 bytes are asked for: one more than a
-/// plan or source may have. Memory may run out at any call: then the answer is `Outcome::Memory`, and nothing is
-/// written.
+/// Each context of a plan, and the actions of each of its sessions, run in a thread of their own, by `rt`. The gate is
+/// asked at each event. Of a file at most 1,048,577 bytes are asked for: one more than a plan or source may have. Memory
+/// may run out at any call: then the answer is `Outcome::Memory`, and nothing is written.
 pub fn run<R: Threads + Sync, L: Library, K: Sink, G: Gate>(
-    _rt: &R,
+    rt: &R,
     alloc: Global,
     words: &[String],
     files: &mut L,
     out: &mut K,
     gate: &G,
 ) -> Outcome
-    // What each answer says: `Tells` has a line for each.
+    // What each answer says: `Tells` has a line for each. At `Ran` the words are `trace` or `run`, plan and sources are
+    // accepted, and the bytes written are the transcript of the report, which is one of the plan's run (`IsRun`): for
+    // every accepted plan and every interleaving of its contexts and sessions, the output and the end of each context
+    // are its program's meaning under exactly the verdicts that its sessions answered; the log of each binding is
+    // exactly the matching events while it was attached, enabled and not disposed, each once, in each context's order;
+    // and each suspension stands exactly where breakpoints, steps and `debugger` statements put it. No schedule is a
+    // premise: this holds of the one report, in whatever order the threads took their steps.
     ensures tells { Tells
         (reading_of L.held L.given L.faults L.last_fault (texts words.now) files.old files.new)
         (writing_of K.taken K.accepted K.faults out.old out.new) result }
@@ -189,7 +201,7 @@ pub fn run<R: Threads + Sync, L: Library, K: Sink, G: Gate>(
     ensures library_count { L.faults files.old ≤ L.faults files.new }
     ensures sink_count { K.faults out.old ≤ K.faults out.new }
 {
-    match prepare(alloc, words, files, gate) {
+    match prepare(rt, alloc, words, files, gate) {
         Ok(prepared) => write_answer(out, prepared),
         Err(outcome) => outcome,
     }

@@ -1,5 +1,7 @@
-//! The test of the top call, apart from those of the crates below, which need not wait for the whole program.
+//! The tests of the top call, apart from those of the crates below, which need not wait for the whole program.
 #![tactic(auto)]
 
+#[cfg(test)]
+mod side_by_side;
 #[cfg(test)]
 mod top;

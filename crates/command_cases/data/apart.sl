@@ -1,0 +1,2 @@
+function a() { return 1; }
+function b() { debugger; return 2; }

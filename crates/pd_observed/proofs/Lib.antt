@@ -1,9 +1,0 @@
-pub mod Lists
-pub mod LifeLaws
-pub mod Stable
-pub mod ServedLaws
-pub mod SeenLaws
-pub mod StepLaws
-pub mod ServingLaws
-pub mod OnLaws
-pub mod Examples

@@ -1,4 +1,0 @@
-pub mod MeetingLaws
-pub mod PartingLaws
-pub mod KeepingLaws
-pub mod BeginningLaws

@@ -1,4 +1,0 @@
-pub mod Places
-pub mod LogLaws
-pub mod AttachingLaws
-pub mod RunLaws

@@ -1,2 +1,0 @@
--- For the proofs alone: no public contract cites it.
-pub mod Attaching

@@ -1,2 +1,0 @@
-function f(n) { while (n < n + 1) { n = n + 1; } }
-function main() { f(0); }

@@ -1,6 +1,0 @@
-function add(a, b) {
-  return a + b;
-}
-function main() {
-  println(add(1, 2));
-}

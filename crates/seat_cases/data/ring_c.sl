@@ -1,1 +1,0 @@
-function c(n) { println(n); return a(5); }

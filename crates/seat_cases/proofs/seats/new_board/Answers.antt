@@ -1,8 +1,0 @@
--- The rows that the filters match make a board.
-use Rattle.seat_cases.proofs.SeatLaws.{layout_sound}
-use Rattle.seat_cases.proofs.seats.new_board.Goals as goal
-
-pub new-requires : goal.new-requires
-new-requires c =
-    layout_sound c.args.plan.now c.args.program.now c.in_ok-table.table c.nodes.result
-    c.requires.sound c.in_ok-table.ensures.table c.in_ok-table.ensures.over c.nodes.ensures.count

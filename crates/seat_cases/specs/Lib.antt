@@ -1,2 +1,0 @@
--- For the program: no library's contract cites it.
-pub mod Seats
