@@ -1,7 +1,7 @@
 -- From what was done in threads to the report.
-use Rattle.std.proofs.Common.{◌≡◌, ℕ, suc, ◌≤◌, ◌==◌, true, List, [], ◌∷◌, ◌++◌, length, map, Option, Some, None, refl, sym, ap, subst, ◌∙◌, arith}
-use Rattle.std.specs.Prelude.{count_by, flat_map}
-use Rattle.std.specs.List.{cons_option, filter_map, list_all}
+use Rattle.std.proofs.Common.{◌≡◌, ℕ, zero, suc, ◌≤◌, ◌==◌, true, List, [], ◌∷◌, ◌++◌, length, map, Option, Some, None, refl, sym, ap, subst, ◌∙◌, arith}
+use Rattle.std.specs.Prelude.{count_by, flat_map, slice_index_or}
+use Rattle.std.specs.List.{All, cons_option, filter_map, list_all}
 use Rattle.std.proofs.lemmas.Bool.{and_parts, and_from}
 use Rattle.std.proofs.lemmas.List.{length-map}
 use Rattle.std.proofs.lemmas.List.Elements.{filter_map-append}
@@ -28,7 +28,7 @@ use Rattle.pd_seats.specs.declared.gathering.Done.{Done}
 use Rattle.pd_seats.specs.Ran.{AreDone}
 use Rattle.pd_seats.specs.Back.{times_taken, HasGathered}
 use Rattle.pd_threads.specs.declared.work.Task.{Task}
-use Rattle.pd_threads.specs.Tasks.{DidDo}
+use Rattle.pd_threads.specs.Tasks.{DidDo, WasBegun}
 use Rattle.pd_threads.specs.Returned.{IsBack, has_come, ran_in, acted_in}
 use Rattle.pd_threads.proofs.Returned.{outcomes_are_back}
 use Rattle.pd_run.specs.declared.report.Report.{Report}
@@ -70,6 +70,14 @@ ran_own (d ∷ ds) = ap (cons_option (ran_in d.own.outcome)) (ran_own ds)
 pub acted_own : (ds : List (Done Task)) → filter_map (λ (d : Done Task). acted_in d.own.outcome) ds ≡ filter_map (λ (t : Task). acted_in t.outcome) (map (λ (d : Done Task). d.own) ds)
 acted_own [] = refl
 acted_own (d ∷ ds) = ap (cons_option (acted_in d.own.outcome)) (acted_own ds)
+
+at_own : (ds : List (Done Task)) (k : ℕ) (d : Done Task) → slice_index_or (map (λ (x : Done Task). x.own) ds) k d.own ≡ (slice_index_or ds k d).own
+at_own [] k d = refl
+at_own (x ∷ xs) zero d = refl
+at_own (x ∷ xs) (suc k) d = at_own xs k d
+
+pub begun_own : (ds : List (Done Task)) → All (λ (t : Task). WasBegun t.outcome) (map (λ (d : Done Task). d.own) ds) → All (λ (d : Done Task). WasBegun d.own.outcome) ds
+begun_own ds h k d below = subst (λ (t : Task). WasBegun t.outcome) (at_own ds k d) (h k d.own (omega (arith, below, length-map ds (λ (x : Done Task). x.own))))
 
 one_fewer : {A : Type 0} (o : Option A) (ys : List A) (n : ℕ) → length ys ≤ n → length (cons_option o ys) ≤ suc n
 one_fewer None ys n h = omega (arith, h)

@@ -2,7 +2,6 @@
 use Rattle.std.proofs.Common.{◌≡◌, ℕ, zero, suc, ◌+◌, ◌*◌, ◌<◌, ◌≤◌, ◌^◌, List, [], ◌∷◌, ◌++◌, length, refl, sym, ap, subst, ◌∙◌, arith, length-append}
 use Rattle.std.specs.Prelude.{slice_get}
 use Rattle.std.specs.List.{All, AllByRecursion}
-use Rattle.std.proofs.lemmas.Bool.{false≢true}
 use Rattle.std.proofs.lemmas.List.{length-map}
 use Rattle.std.proofs.lemmas.List.Elements.{All-from_recursion}
 use Rattle.pd_tree.specs.Program.{Program}
@@ -29,7 +28,7 @@ use Rattle.pd_session.specs.Doing.{MayDo, turns_of, turns_in}
 use Rattle.pd_guest.specs.Beginning.{IsReadyFor}
 use Rattle.pd_seats.specs.Shares.{HasFor}
 use Rattle.pd_threads.specs.declared.work.Task.{Task}
-use Rattle.pd_threads.specs.Tasks.{CanRun, CanAct, CanDo, actions_of, actions_at}
+use Rattle.pd_threads.specs.Tasks.{CanRun, CanAct, CanWork, CanDo, actions_of, actions_at}
 use Rattle.pd_threads.specs.Returned.{AreContextTasks, AreSessionTasks}
 use Rattle.pd_host.specs.Beginning.{IsFirstOf, AreTasksOf}
 
@@ -125,11 +124,12 @@ module _ (plan : Plan) (p : Program) (s0 s1 : Sitting) (sound : IsSound plan) (e
       lawful = λ session k. scripts_are_lawful plan sound session k;
     }
 
-    can_act : (s : ℕ) → s < length plan.sessions → CanAct (actions_at plan s) s (standing_of seat)
+    can_act : (s : ℕ) → s < length plan.sessions → CanAct plan s (standing_of seat)
     can_act s within =
         let script = script_in plan plan.sessions sound.fits.sessions.all sound.refers.sessions s in
         let turns = all_turns (actions_at plan s) script.fits in
         record {
+          planned = within;
           within = omega (arith, within, ap (λ (l : Layout). l.sessions) layout_same, first.new.sessions_is);
           few = omega (arith, script.few);
           may = all_may plan.bindings (bindings (standing_of seat)) (actions_at plan s) bindings_same script.fits script.refers;
@@ -147,11 +147,8 @@ module _ (plan : Plan) (p : Program) (s0 s1 : Sitting) (sound : IsSound plan) (e
   contexts_can : (c : ℕ) (ts : List Task) → AreContextTasks c ts → c + length ts ≤ length plan.contexts → AllByRecursion MayBeDone ts
   contexts_can c [] are most = tt
   contexts_can c (t ∷ ts) are most = (
-    λ seat came. (
-      λ is. subst (λ k. CanRun plan p k (standing_of seat)) (sym are.1) (can_run seat came c (omega (arith, most))),
-      λ no. absurd (false≢true (sym no ∙ are.0)),
-    ),
-    contexts_can (suc c) ts are.2 (omega (arith, most)),
+    λ seat came. subst (λ w. CanWork plan p w (standing_of seat)) (sym are.0) (can_run seat came c (omega (arith, most))),
+    contexts_can (suc c) ts are.1 (omega (arith, most)),
   )
 
   sessions_can : (s : ℕ) (ss : List Script) (ts : List Task) → AreSessionTasks s ss ts → s + length ss ≤ length plan.sessions → AllByRecursion MayBeDone ts
@@ -159,11 +156,8 @@ module _ (plan : Plan) (p : Program) (s0 s1 : Sitting) (sound : IsSound plan) (e
   sessions_can s [] (t ∷ ts) are most = absurd are
   sessions_can s (x ∷ xs) [] are most = absurd are
   sessions_can s (x ∷ xs) (t ∷ ts) are most = (
-    λ seat came. (
-      λ is. absurd (false≢true (sym are.0 ∙ is)),
-      λ no. subst (λ k. CanAct (actions_at plan k) k (standing_of seat)) (sym are.1) (can_act seat came s (omega (arith, most))),
-    ),
-    sessions_can (suc s) xs ts are.2 (omega (arith, most)),
+    λ seat came. subst (λ w. CanWork plan p w (standing_of seat)) (sym are.0) (can_act seat came s (omega (arith, most))),
+    sessions_can (suc s) xs ts are.1 (omega (arith, most)),
   )
 
   both_can : (xs ys : List Task) → AllByRecursion MayBeDone xs → AllByRecursion MayBeDone ys → AllByRecursion MayBeDone (xs ++ ys)
@@ -180,7 +174,7 @@ module _ (plan : Plan) (p : Program) (s0 s1 : Sitting) (sound : IsSound plan) (e
   session_count s [] [] are = refl
   session_count s [] (t ∷ ts) are = absurd are
   session_count s (x ∷ xs) [] are = absurd are
-  session_count s (x ∷ xs) (t ∷ ts) are = omega (arith, session_count (suc s) xs ts are.2)
+  session_count s (x ∷ xs) (t ∷ ts) are = omega (arith, session_count (suc s) xs ts are.1)
 
   -- the first seat has shares for all of them
   pub has_shares : (tasks : List Task) (n : ℕ) → AreTasksOf plan tasks → n ≡ length tasks → HasFor n s1

@@ -23,7 +23,7 @@ pub(crate) fn session_records(
         return Ok(Vec::new(alloc));
     };
     let Some(results) = earlier_actions.pop() else {
-        return Ok(Vec::new(alloc));
+        unreachable!();
     };
     let mut records = session_records(alloc, earlier_befores, earlier_actions)?;
     records.push(SessionRecord {

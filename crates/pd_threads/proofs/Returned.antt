@@ -1,9 +1,9 @@
 -- From pieces that were done to contexts and sessions that are back.
 use Rattle.std.proofs.Common.{◌≡◌, Bool, true, false, ℕ, suc, ◌+◌, ◌<◌, List, [], ◌∷◌, ◌++◌, Option, Some, None, length, map, refl, sym, ap, subst, ◌∙◌, arith, append_assoc, length-append}
-use Rattle.std.specs.Prelude.{slice_get, slice_index}
-use Rattle.std.specs.List.{AllZip, filter_map, list_all, cons_option}
+use Rattle.std.specs.Prelude.{slice_get, slice_index_or}
+use Rattle.std.specs.List.{All, AllZip, filter_map, list_all, cons_option}
 use Rattle.std.proofs.lemmas.Bool.{and_parts, and_from, false≢true}
-use Rattle.std.proofs.lemmas.List.Elements.{filter_map-append}
+use Rattle.std.proofs.lemmas.List.Elements.{All-map, filter_map-append}
 use Rattle.std.proofs.lemmas.List.{length-map, append-nil}
 use Rattle.pd_tree.specs.Program.{Program}
 use Rattle.pd_plan.specs.declared.plan.Plan.{Plan}
@@ -28,8 +28,10 @@ use Rattle.pd_seats.proofs.BackLaws.{are_back}
 use Rattle.pd_threads.specs.declared.work.Outcome.{Outcome}
 use Rattle.pd_threads.specs.declared.work.Outcome.TheVariants.{Waiting, Ran, Acted, Memory}
 use Rattle.pd_threads.specs.declared.work.Task.{Task}
-use Rattle.pd_threads.specs.Tasks.{is_fit, actions_of, actions_at, IsContextRun, CameOf, DidDo}
-use Rattle.pd_threads.specs.Returned.{IsBack, OutcomesAreBack, has_come, AreContextTasks, AreSessionTasks, AreScriptsAt, ran_in, acted_in, HaveRan, HaveActed, ContextsReturn, SessionsReturn, WorkIsBack}
+use Rattle.pd_threads.specs.declared.work.Work.{Work}
+use Rattle.pd_threads.specs.declared.work.Work.TheVariants.{Context, Session}
+use Rattle.pd_threads.specs.Tasks.{actions_of, IsContextRun, CameOf, DidDo, WasBegun}
+use Rattle.pd_threads.specs.Returned.{IsBack, OutcomesAreBack, NoneWaits, has_come, AreContextTasks, AreSessionTasks, AreScriptsAt, ran_in, acted_in, HaveRan, HaveActed, ContextsReturn, SessionsReturn, WorkIsBack}
 
 abbrev some_or : {A : Type 0} → A → Option A → A
 some_or d None = d
@@ -49,20 +51,21 @@ scripts_at before (x ∷ xs) s is = (
 
 -- ---- contexts
 
-came_ran : (plan : Plan) (p : Program) (n c : ℕ) (old new : Standing) (o : Outcome) (r : ContextRecord) → n ≡ c → CameOf plan p n old new o → ran_in o ≡ Some r
+came_ran : (plan : Plan) (p : Program) (w : Work) (c : ℕ) (old new : Standing) (o : Outcome) (r : ContextRecord) → w ≡ Context c → CameOf plan p w old new o → ran_in o ≡ Some r
     → IsContextRun plan p c old new r
-came_ran plan p n c old new (Ran q) r same came is =
-    subst (λ x. IsContextRun plan p c old new x) (ap (some_or q) is)
-    (subst (λ k. IsContextRun plan p k old new q) same came)
-came_ran plan p n c old new Waiting r same came is = absurd came
-came_ran plan p n c old new (Acted v) r same came is = absurd (cc)
-came_ran plan p n c old new Memory r same came is = absurd (cc)
+came_ran plan p w c old new o r same came is = ran o (subst (λ x. CameOf plan p x old new o) same came) is
+  where
+    ran : (q : Outcome) → CameOf plan p (Context c) old new q → ran_in q ≡ Some r → IsContextRun plan p c old new r
+    ran (Ran q) h e = subst (λ x. IsContextRun plan p c old new x) (ap (some_or q) e) h
+    ran Waiting h e = absurd h
+    ran (Acted v) h e = absurd h
+    ran Memory h e = absurd (cc)
 
-one_context : (plan : Plan) (p : Program) (first : Sitting) (c : ℕ) (b e : Piece Task) (r : ContextRecord) → b.own.number ≡ c → DidFrom (DidDo plan p) first b e → ran_in e.own.outcome ≡ Some r
+one_context : (plan : Plan) (p : Program) (first : Sitting) (c : ℕ) (b e : Piece Task) (r : ContextRecord) → b.own.work ≡ Context c → DidFrom (DidDo plan p) first b e → ran_in e.own.outcome ≡ Some r
     → IsDone (IsScripted plan) plan p (standing_of first).known c (record { start = standing_of b.seat; seat = e.seat; result = r })
 one_context plan p first c b e r same d is =
     context_is_done plan p (standing_of first).known c (standing_of b.seat) e.seat r
-    (came_ran plan p b.own.number c (standing_of b.seat) (standing_of e.seat) e.own.outcome r same d.work.came is)
+    (came_ran plan p b.own.work c (standing_of b.seat) (standing_of e.seat) e.own.outcome r same d.work.came is)
     d.new.known d.new.replies d.new.numbers
 
 pub contexts_return : ContextsReturn
@@ -72,33 +75,35 @@ contexts_return plan p first c [] (e ∷ es) rs tasks zip ran = absurd zip
 contexts_return plan p first c (b ∷ bs) [] rs tasks zip ran = absurd zip
 contexts_return plan p first c (b ∷ bs) (e ∷ es) [] tasks zip ran = absurd ran
 contexts_return plan p first c (b ∷ bs) (e ∷ es) (r ∷ rs) tasks zip ran =
-    let rest = contexts_return plan p first (suc c) bs es rs tasks.2 zip.1 ran.1 in
+    let rest = contexts_return plan p first (suc c) bs es rs tasks.1 zip.1 ran.1 in
     let here : RanContext = record { start = standing_of b.seat; seat = e.seat; result = r } in
     record {
       contexts = here ∷ rest.contexts;
-      run = (one_context plan p first c b e r tasks.1 zip.0 ran.0, rest.run);
+      run = (one_context plan p first c b e r tasks.0 zip.0 ran.0, rest.run);
       tokens = ap (λ ts. e.seat.token ∷ ts) rest.tokens;
       results = ap (λ xs. r ∷ xs) rest.results;
     }
 
 -- ---- sessions
 
-came_acted : (plan : Plan) (p : Program) (n s : ℕ) (x : Script) (old new : Standing) (o : Outcome) (rs : List ActionResult) → n ≡ s → slice_get plan.sessions s ≡ Some x → CameOf plan p n old new o → acted_in o ≡ Some rs
+came_acted : (plan : Plan) (p : Program) (w : Work) (s : ℕ) (x : Script) (old new : Standing) (o : Outcome) (rs : List ActionResult) → w ≡ Session s → slice_get plan.sessions s ≡ Some x → CameOf plan p w old new o → acted_in o ≡ Some rs
     → AreDone s x.actions rs old new
-came_acted plan p n s x old new (Acted v) rs same at came is =
-    subst (λ xs. AreDone s x.actions xs old new) (ap (some_or v.items) is)
-    (subst (λ todo. AreDone s todo v.items old new) (ap actions_of at)
-    (subst (λ k. AreDone k (actions_at plan k) v.items old new) same came))
-came_acted plan p n s x old new Waiting rs same at came is = absurd came
-came_acted plan p n s x old new (Ran r) rs same at came is = absurd (cc)
-came_acted plan p n s x old new Memory rs same at came is = absurd (cc)
+came_acted plan p w s x old new o rs same at came is = acted o (subst (λ y. CameOf plan p y old new o) same came) is
+  where
+    acted : (q : Outcome) → CameOf plan p (Session s) old new q → acted_in q ≡ Some rs → AreDone s x.actions rs old new
+    acted (Acted v) h e =
+        subst (λ xs. AreDone s x.actions xs old new) (ap (some_or v.items) e)
+        (subst (λ todo. AreDone s todo v.items old new) (ap actions_of at) h)
+    acted Waiting h e = absurd h
+    acted (Ran r) h e = absurd h
+    acted Memory h e = absurd (cc)
 
-one_session : (plan : Plan) (p : Program) (first : Sitting) (s : ℕ) (x : Script) (b e : Piece Task) (rs : List ActionResult) → s < first.hub.layout.sessions → 0 < first.hub.layout.contexts → b.own.number ≡ s
+one_session : (plan : Plan) (p : Program) (first : Sitting) (s : ℕ) (x : Script) (b e : Piece Task) (rs : List ActionResult) → s < first.hub.layout.sessions → 0 < first.hub.layout.contexts → b.own.work ≡ Session s
     → slice_get plan.sessions s ≡ Some x → DidFrom (DidDo plan p) first b e → acted_in e.own.outcome ≡ Some rs
     → IsScript first.hub.layout.sessions first.hub.layout.contexts (record { session = s; token = e.seat.token; script = x.actions; results = rs })
 one_session plan p first s x b e rs within some same at d is =
     let hub : b.seat.hub.layout.contexts ≡ first.hub.layout.contexts = ap (λ (h : Hub). h.layout.contexts) d.new.hub in
-    let done = came_acted plan p b.own.number s x (standing_of b.seat) (standing_of e.seat) e.own.outcome rs same at d.work.came is in
+    let done = came_acted plan p b.own.work s x (standing_of b.seat) (standing_of e.seat) e.own.outcome rs same at d.work.came is in
     let told = results_are_told s x.actions rs (standing_of b.seat) (standing_of e.seat)
     (record { loads = (d.new.answer_reads s).0; end_loads = d.new.end_reads.0; last = (d.new.answer_reads s).1; last_ends = d.new.end_reads.1; some = omega (arith, some, hub) }) done in
     record {
@@ -118,11 +123,11 @@ sessions_return plan p first s (x ∷ xs) [] es more at most some tasks zip acte
 sessions_return plan p first s (x ∷ xs) (b ∷ bs) [] more at most some tasks zip acted = absurd zip
 sessions_return plan p first s (x ∷ xs) (b ∷ bs) (e ∷ es) [] at most some tasks zip acted = absurd acted
 sessions_return plan p first s (x ∷ xs) (b ∷ bs) (e ∷ es) (rs ∷ more) at most some tasks zip acted =
-    let rest = sessions_return plan p first (suc s) xs bs es more at.1 (omega (arith, most)) some tasks.2 zip.1 acted.1 in
+    let rest = sessions_return plan p first (suc s) xs bs es more at.1 (omega (arith, most)) some tasks.1 zip.1 acted.1 in
     let here : ScriptHand = record { session = s; token = e.seat.token; script = x.actions; results = rs } in
     record {
       sessions = here ∷ rest.sessions;
-      scripted = (refl, refl, one_session plan p first s x b e rs (omega (arith, most)) some tasks.1 at.0 zip.0 acted.0, rest.scripted);
+      scripted = (refl, refl, one_session plan p first s x b e rs (omega (arith, most)) some tasks.0 at.0 zip.0 acted.0, rest.scripted);
       tokens = ap (λ ts. e.seat.token ∷ ts) rest.tokens;
       results = ap (λ xs. rs ∷ xs) rest.results;
     }
@@ -191,17 +196,17 @@ work_is_back plan p first last xs ys ran acted afters left records more d none c
 
 -- ---- by outcomes
 
-context_came : (o : Outcome) → is_fit true o ≡ true → has_come o ≡ true → (r : ContextRecord) × (ran_in o ≡ Some r) × (acted_in o ≡ None)
-context_came (Ran r) fit come = (r, refl, refl)
-context_came (Acted v) fit come = absurd (false≢true fit)
-context_came Waiting fit come = absurd (false≢true come)
-context_came Memory fit come = absurd (false≢true come)
+context_came : (plan : Plan) (p : Program) (c : ℕ) (old new : Standing) (o : Outcome) → CameOf plan p (Context c) old new o → has_come o ≡ true → (r : ContextRecord) × (ran_in o ≡ Some r) × (acted_in o ≡ None)
+context_came plan p c old new (Ran r) came h = (r, refl, refl)
+context_came plan p c old new (Acted v) came h = absurd came
+context_came plan p c old new Waiting came h = absurd came
+context_came plan p c old new Memory came h = absurd (false≢true h)
 
-session_came : (o : Outcome) → is_fit false o ≡ true → has_come o ≡ true → (rs : List ActionResult) × (acted_in o ≡ Some rs) × (ran_in o ≡ None)
-session_came (Ran r) fit come = absurd (false≢true fit)
-session_came (Acted v) fit come = (v.items, refl, refl)
-session_came Waiting fit come = absurd (false≢true come)
-session_came Memory fit come = absurd (false≢true come)
+session_came : (plan : Plan) (p : Program) (s : ℕ) (old new : Standing) (o : Outcome) → CameOf plan p (Session s) old new o → has_come o ≡ true → (rs : List ActionResult) × (acted_in o ≡ Some rs) × (ran_in o ≡ None)
+session_came plan p s old new (Ran r) came h = absurd came
+session_came plan p s old new (Acted v) came h = (v.items, refl, refl)
+session_came plan p s old new Waiting came h = absurd came
+session_came plan p s old new Memory came h = absurd (false≢true h)
 
 abbrev rans : List Task → List ContextRecord
 rans ts = filter_map (λ (t : Task). ran_in t.outcome) ts
@@ -220,8 +225,8 @@ module _ (plan : Plan) (p : Program) (first : Sitting) where
   contexts_came c (b ∷ bs) [] tasks zip come = absurd zip
   contexts_came c (b ∷ bs) (e ∷ es) tasks zip come =
       let both = and_parts (has_come e.own.outcome) (all_came (map own_of es)) come in
-      let rest = contexts_came (suc c) bs es tasks.2 zip.1 both.1 in
-      let one = context_came e.own.outcome (subst (λ k. is_fit k e.own.outcome ≡ true) tasks.0 zip.0.work.fits) both.0 in (
+      let rest = contexts_came (suc c) bs es tasks.1 zip.1 both.1 in
+      let one = context_came plan p c (standing_of b.seat) (standing_of e.seat) e.own.outcome (subst (λ w. CameOf plan p w (standing_of b.seat) (standing_of e.seat) e.own.outcome) tasks.0 zip.0.work.came) both.0 in (
         subst (λ x. HaveRan (e.own ∷ map own_of es) (cons_option x (rans (map own_of es)))) (sym one.1) (one.1, rest.0),
         ap (λ x. cons_option x (acteds (map own_of es))) one.2 ∙ rest.1,
       )
@@ -235,8 +240,8 @@ module _ (plan : Plan) (p : Program) (first : Sitting) where
   sessions_came s (x ∷ xs) (b ∷ bs) [] tasks zip come = absurd zip
   sessions_came s (x ∷ xs) (b ∷ bs) (e ∷ es) tasks zip come =
       let both = and_parts (has_come e.own.outcome) (all_came (map own_of es)) come in
-      let rest = sessions_came (suc s) xs bs es tasks.2 zip.1 both.1 in
-      let one = session_came e.own.outcome (subst (λ k. is_fit k e.own.outcome ≡ true) tasks.0 zip.0.work.fits) both.0 in (
+      let rest = sessions_came (suc s) xs bs es tasks.1 zip.1 both.1 in
+      let one = session_came plan p s (standing_of b.seat) (standing_of e.seat) e.own.outcome (subst (λ w. CameOf plan p w (standing_of b.seat) (standing_of e.seat) e.own.outcome) tasks.0 zip.0.work.came) both.0 in (
         subst (λ y. HaveActed (e.own ∷ map own_of es) (cons_option y (acteds (map own_of es)))) (sym one.1) (one.1, rest.0),
         ap (λ y. cons_option y (rans (map own_of es))) one.2 ∙ rest.1,
       )
@@ -262,3 +267,21 @@ outcomes_are_back plan p first last xs ys afters left d none contexts sessions e
     subst (λ zs. IsBack plan p first last (length xs) left zs (acteds afters)) (sym records)
     (subst (λ zs. IsBack plan p first last (length xs) left (rans a) zs) (sym results)
     (work_is_back plan p first last xs ys a b afters left (rans a) (acteds b) d none contexts sessions enough some back.afters_are (length-map back.ended.0 (own_of {O = Task}) ∙ n0) one.0 other.0))
+
+-- ---- none waits
+
+begun : (plan : Plan) (p : Program) (w : Work) (old new : Standing) (o : Outcome) → CameOf plan p w old new o → WasBegun o
+begun plan p w old new (Ran r) came = tt
+begun plan p w old new (Acted v) came = tt
+begun plan p w old new Memory came = tt
+begun plan p (Context c) old new Waiting came = came
+begun plan p (Session s) old new Waiting came = came
+
+pub none_waits : NoneWaits
+none_waits plan p first last tasks afters left d =
+    subst (All (λ (t : Task). WasBegun t.outcome)) (sym d.afters_are)
+    (All-map (λ (t : Task). WasBegun t.outcome) (own_of {O = Task}) d.ended
+    (λ i x below.
+    let b = slice_index_or d.begun i x in
+    let e = slice_index_or d.ended i x in
+    begun plan p b.own.work (standing_of b.seat) (standing_of e.seat) e.own.outcome (d.each i x (omega (arith, below, d.count))).came))

@@ -1,7 +1,7 @@
 -- For proofs above: no public contract needs it.
 -- What contexts and sessions are when their pieces of work are back, as the report of a run asks for it.
 use Rattle.std.specs.Prelude.{◌≡◌, ℕ, suc, ◌+◌, ◌<◌, ◌≤◌, Bool, false, true, List, [], ◌∷◌, ◌++◌, length, map, slice_get, slice_index, Option, Some, None}
-use Rattle.std.specs.List.{AllZip, filter_map, list_all}
+use Rattle.std.specs.List.{All, AllZip, filter_map, list_all}
 use Rattle.pd_tree.specs.Program.{Program}
 use Rattle.pd_plan.specs.declared.plan.Plan.{Plan}
 use Rattle.pd_plan.specs.declared.plan.Script.{Script}
@@ -21,21 +21,22 @@ use Rattle.pd_seats.specs.Back.{numbers_for, own_of, DidFrom, HasGathered}
 use Rattle.pd_run.specs.Run.{IsScripted}
 use Rattle.pd_run.specs.Hands.{ScriptHand}
 use Rattle.pd_run.specs.Done.{Ran as RanContext, AreDone as AreContextsRun, AreScripted}
-use Rattle.pd_threads.specs.Tasks.{DidDo}
+use Rattle.pd_threads.specs.Tasks.{DidDo, WasBegun}
 use Rattle.pd_threads.specs.declared.work.Outcome.{Outcome}
 use Rattle.pd_threads.specs.declared.work.Outcome.TheVariants.{Ran, Acted}
 use Rattle.pd_threads.specs.declared.work.Task.{Task}
+use Rattle.pd_threads.specs.declared.work.Work.TheVariants.{Context, Session}
 
 -- ---- the tasks
 
 -- the contexts from number c on, so many; and the sessions from number s on
 abbrev pub AreContextTasks : ℕ → List Task → Type 0
 AreContextTasks c [] = Unit {0}
-AreContextTasks c (t ∷ ts) = (t.is_context ≡ true) × (t.number ≡ c) × AreContextTasks (suc c) ts
+AreContextTasks c (t ∷ ts) = (t.work ≡ Context c) × AreContextTasks (suc c) ts
 
 abbrev pub AreSessionTasks : ℕ → List Script → List Task → Type 0
 AreSessionTasks s [] [] = Unit {0}
-AreSessionTasks s (x ∷ xs) (t ∷ ts) = (t.is_context ≡ false) × (t.number ≡ s) × AreSessionTasks (suc s) xs ts
+AreSessionTasks s (x ∷ xs) (t ∷ ts) = (t.work ≡ Session s) × AreSessionTasks (suc s) xs ts
 AreSessionTasks s _ _ = ⊥
 
 -- these are the scripts from number s on
@@ -69,6 +70,11 @@ HaveActed (t ∷ ts) (rs ∷ more) = (acted_in t.outcome ≡ Some rs) × HaveAct
 HaveActed _ _ = ⊥
 
 -- ---- the laws
+
+-- no task that was done is left waiting
+abbrev pub NoneWaits : Type 0
+NoneWaits = (plan : Plan) (p : Program) (first last : Sitting) (tasks afters : List Task) (left : List Sights) → AreDone (DidDo plan p) first last tasks afters left
+    → All (λ (t : Task). WasBegun t.outcome) afters
 
 -- what becomes of pieces whose tasks are contexts from number c on
 pub record RanSo (plan : Plan) (p : Program) (first : Sitting) (c : ℕ) (ended : List (Piece Task)) (rs : List ContextRecord) : Type 0 where

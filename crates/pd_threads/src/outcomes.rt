@@ -1,6 +1,7 @@
 //! What came of all tasks.
 ghost use Rattle.std.specs.Prelude.{◌≡◌, true, map, IfOk};
-ghost use Rattle.std.specs.List.{filter_map, list_all};
+ghost use Rattle.std.specs.List.{All, filter_map, list_all};
+ghost use Rattle.pd_threads.specs.Tasks.{WasBegun};
 ghost use Rattle.pd_threads.specs.Returned.{ran_in, acted_in, has_come};
 
 use crate::work::{Outcome, Task};
@@ -18,8 +19,10 @@ pub struct Outcomes {
     pub sights: Vec<Sights>,
 }
 
-/// Takes the outcomes apart. Where memory ran out in one of the tasks, or does so here, it answers `AllocError`.
+/// Takes the outcomes apart. Condition: no task is left waiting. The only error is `AllocError`, where memory ran out in
+/// one of the tasks or does so here.
 pub fn outcomes_of(alloc: Global, done: Vec<Done<Task>>) -> Result<Outcomes, AllocError>
+    requires begun { All (λ (d : _). WasBegun d.own.outcome) done.items }
     ensures records { IfOk result (λ o. o.records.items ≡ filter_map (λ (d : _). ran_in d.own.outcome) done.items) }
     ensures results { IfOk result (λ o. map (λ (v : _). v.items) o.results.items ≡ filter_map (λ (d : _). acted_in d.own.outcome) done.items) }
     ensures sights { IfOk result (λ o. o.sights.items ≡ map (λ (d : _). d.sights) done.items) }
@@ -35,8 +38,8 @@ pub fn outcomes_of(alloc: Global, done: Vec<Done<Task>>) -> Result<Outcomes, All
         match outcome {
             Outcome::Ran(record) => records.push(record)?,
             Outcome::Acted(acted) => results.push(acted)?,
-            Outcome::Waiting => return Err(AllocError),
             Outcome::Memory => return Err(AllocError),
+            Outcome::Waiting => unreachable!(),
         }
     }
     Ok(Outcomes {

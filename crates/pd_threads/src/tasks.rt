@@ -2,7 +2,7 @@
 ghost use Rattle.std.specs.Prelude.{◌≡◌, length, vec_len, IfOk};
 ghost use Rattle.pd_threads.specs.Returned.{AreContextTasks, AreSessionTasks};
 
-use crate::work::{Outcome, Task};
+use crate::work::{Outcome, Task, Work};
 use pd_plan::Script;
 use std::alloc::{AllocError, Global};
 
@@ -15,8 +15,7 @@ pub fn context_tasks(alloc: Global, count: u32) -> Result<Vec<Task>, AllocError>
     for c in 0..count {
         tasks.push(Task {
             alloc,
-            is_context: true,
-            number: c,
+            work: Work::Context(c),
             outcome: Outcome::Waiting,
         })?;
     }
@@ -32,8 +31,7 @@ pub fn session_tasks(alloc: Global, scripts: &[Script], count: u32) -> Result<Ve
     for s in 0..count {
         tasks.push(Task {
             alloc,
-            is_context: false,
-            number: s,
+            work: Work::Session(s),
             outcome: Outcome::Waiting,
         })?;
     }

@@ -12,7 +12,16 @@ use pd_session::{ActionResult, run_script};
 use pd_shared::Seat;
 use pd_suspend::{ContextRecord, ScriptAnswerer};
 use pd_tree::Program;
-use std::alloc::Global;
+use std::alloc::{AllocError, Global};
+
+/// What there is to do.
+#[derive(Drop, Clone, Copy)]
+pub enum Work {
+    /// The context of this number.
+    Context(u32),
+    /// The actions of the session of this number.
+    Session(u32),
+}
 
 /// What came of a task.
 #[derive(Drop)]
@@ -27,12 +36,11 @@ pub enum Outcome {
     Memory,
 }
 
-/// A task: the context of this number, or the actions of the session of this number; and what came of it.
+/// A task: what there is to do, and what came of it.
 #[derive(Drop)]
 pub struct Task {
     pub alloc: Global,
-    pub is_context: bool,
-    pub number: u32,
+    pub work: Work,
     pub outcome: Outcome,
 }
 
@@ -70,27 +78,28 @@ impl<Q: HasPlan, G: Gate> PlanWork<'_, Q, G> {
     {
         let alloc = own.alloc;
         let plan = self.plan.plan();
-        own.outcome = if own.is_context {
-            let mut answerer = ScriptAnswerer::new(plan);
-            match run_context(
-                alloc,
-                self.program,
-                plan,
-                own.number,
-                seat,
-                &mut answerer,
-                self.gate,
-            ) {
-                Ok(record) => Outcome::Ran(record),
-                Err(_) => Outcome::Memory,
+        own.outcome = match own.work {
+            Work::Context(number) => {
+                let mut answerer = ScriptAnswerer::new(plan);
+                match run_context(
+                    alloc,
+                    self.program,
+                    plan,
+                    number,
+                    seat,
+                    &mut answerer,
+                    self.gate,
+                ) {
+                    Ok(record) => Outcome::Ran(record),
+                    Err(AllocError) => Outcome::Memory,
+                }
             }
-        } else {
-            match plan.sessions.get(own.number as usize) {
-                None => Outcome::Memory,
-                Some(script) => match run_script(alloc, script, own.number, seat, self.gate) {
+            Work::Session(number) => {
+                let script = &plan.sessions.as_slice()[number as usize];
+                match run_script(alloc, script, number, seat, self.gate) {
                     Ok(results) => Outcome::Acted(results),
-                    Err(_) => Outcome::Memory,
-                },
+                    Err(AllocError) => Outcome::Memory,
+                }
             }
         };
     }

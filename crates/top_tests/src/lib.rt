@@ -2,6 +2,4 @@
 #![tactic(auto)]
 
 #[cfg(test)]
-mod side_by_side;
-#[cfg(test)]
 mod top;

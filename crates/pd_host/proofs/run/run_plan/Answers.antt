@@ -6,8 +6,9 @@ use Rattle.pd_shared.specs.Closed.{IsClosed}
 use Rattle.pd_seats.specs.declared.gathering.Done.{Done}
 use Rattle.pd_threads.specs.declared.work.Task.{Task}
 use Rattle.pd_threads.specs.Returned.{ran_in}
+use Rattle.pd_threads.proofs.Returned.{none_waits}
 use Rattle.pd_host.specs.Beginning.{IsFirstOf}
-use Rattle.pd_host.proofs.RunLaws.{HasRun, come_own, ran_own, acted_own, fewer, befores_count, results_count, is_run}
+use Rattle.pd_host.proofs.RunLaws.{HasRun, begun_own, come_own, ran_own, acted_own, fewer, befores_count, results_count, is_run}
 use Rattle.pd_host.proofs.TaskLaws.{has_shares, all_can}
 use Rattle.pd_host.proofs.run.run_plan.Goals as goal
 
@@ -24,6 +25,11 @@ run_all-requires-clause-can g c κs within =
     (subst (IsFirstOf c.args.plan.now c.args.program.now) (sym c.sit-first.ensures) c.in_ok-board.ensures.first)
     c.in_ok-befores.ensures.rest c.in_ok-befores.ensures.base
     c.in_ok-tasks.tasks.items c.in_ok-tasks.ensures
+
+pub outcomes_of-requires : goal.outcomes_of-requires
+outcomes_of-requires g c =
+    begun_own c.in_ok-done.done.items
+    (none_waits c.args.plan.now c.args.program.now c.attach_all.new.seat c.run_all.new.first c.in_ok-tasks.tasks.items _ _ c.in_ok-done.ensures.done)
 
 abbrev had_run : (g : _) (c : goal.In_ok-records g) → HasRun c.args.plan.now c.args.program.now c.sit-first.result c.attach_all.new.seat c.run_all.new.first (map (λ v. v.items) c.in_ok-befores.befores.items) c.in_ok-tasks.tasks.items (map (λ d. d.own) c.in_ok-done.done.items) (map (λ d. d.sights) c.in_ok-done.done.items)
 had_run g c = record {
