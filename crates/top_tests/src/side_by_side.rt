@@ -5,10 +5,10 @@ use pd_top::run;
 use std::alloc::{AllocError, Global};
 use std::sync::atomic::{AtomicU32, Ordering};
 use std::test::Fail;
-use std::thread::Threads;
+use std::thread::{Threads, yield_now};
 
-// How often a hold looks whether it is over, before it gives up.
-const MOST_LOOKS: u32 = 200_000_000;
+// How often a hold looks whether it is over, letting others run in between, before it gives up.
+const MOST_LOOKS: u32 = 10_000_000;
 
 // A place that one thread comes to, and that another waits for.
 #[derive(Drop)]
@@ -35,6 +35,7 @@ impl Place {
             if self.reached.load(Ordering::SeqCst) == 1 {
                 return;
             }
+            yield_now();
         }
         self.missed.store(1, Ordering::SeqCst);
     }
