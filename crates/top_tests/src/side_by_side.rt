@@ -97,8 +97,10 @@ fn two_contexts_run_side_by_side(rt: HostRuntime) -> Result<(), Fail> {
         first: Place::new(),
         second: Place::new(),
     };
-    let plan = "{\"version\":1,\"sources\":[{\"name\":\"main.sl\",\"language\":\"sl\"}],\"contexts\":[{\"source\":0},{\"source\":0}],\"bindings\":[{\"kind\":\"observe\",\"filter\":{\"tags\":[\"Statement\"]}},{\"kind\":\"break\",\"session\":0,\"source\":0,\"line\":4,\"one_shot\":true}],\"sessions\":[{\"before\":[0,1]},{\"actions\":[{\"dispose\":0}]}]}";
-    let source = "function main() {\n  i = 0;\n  while (i < 5) {\n    println(i);\n    i = i + 1;\n  }\n}\n";
+    let plan =
+        "{\"version\":1,\"sources\":[{\"name\":\"main.sl\",\"language\":\"sl\"}],\"contexts\":[{\"source\":0},{\"source\":0}],\"bindings\":[{\"kind\":\"observe\",\"filter\":{\"tags\":[\"Statement\"]}},{\"kind\":\"break\",\"session\":0,\"source\":0,\"line\":4,\"one_shot\":true}],\"sessions\":[{\"before\":[0,1]},{\"actions\":[{\"dispose\":0}]}]}";
+    let source =
+        "function main() {\n  i = 0;\n  while (i < 5) {\n    println(i);\n    i = i + 1;\n  }\n}\n";
     let (status, text) = ran(&rt, rt.alloc(), plan, source, &gate)?;
     assert_eq!(rt; status, 0);
     assert!(rt; text.len() > 0);
@@ -147,9 +149,11 @@ fn a_session_acts_beside_a_context(rt: HostRuntime) -> Result<(), Fail> {
         seen: Place::new(),
         disposed: Place::new(),
     };
-    let plan = "{\"version\":1,\"sources\":[{\"name\":\"main.sl\",\"language\":\"sl\"}],\"contexts\":[{\"source\":0}],\"bindings\":[{\"kind\":\"observe\",\"filter\":{\"tags\":[\"Statement\"]}}],\"sessions\":[{\"actions\":[{\"attach\":0},{\"dispose\":0},{\"attach\":0}]}]}";
+    let plan =
+        "{\"version\":1,\"sources\":[{\"name\":\"main.sl\",\"language\":\"sl\"}],\"contexts\":[{\"source\":0}],\"bindings\":[{\"kind\":\"observe\",\"filter\":{\"tags\":[\"Statement\"]}}],\"sessions\":[{\"actions\":[{\"attach\":0},{\"dispose\":0},{\"attach\":0}]}]}";
     let source = "function main() { println(1); println(2); }";
-    let wanted = "context 0 main.sl main\n| 1\n| 2\nend done NULL fuel 8\nsession 0 answers 0\n  attach 0 attached\n  dispose 0 disposed 2\n  attach 0 already\nbinding 0 observe count 2 disposed\n  0 2 0 enter 2 0:1:19\n  0 7 1 return 2 0:1:19 1\n";
+    let wanted =
+        "context 0 main.sl main\n| 1\n| 2\nend done NULL fuel 8\nsession 0 answers 0\n  attach 0 attached\n  dispose 0 disposed 2\n  attach 0 already\nbinding 0 observe count 2 disposed\n  0 2 0 enter 2 0:1:19\n  0 7 1 return 2 0:1:19 1\n";
     let (status, text) = ran(&rt, rt.alloc(), plan, source, &gate)?;
     assert_eq!(rt; status, 0);
     assert_eq!(rt; text.as_slice(), wanted.as_bytes());
