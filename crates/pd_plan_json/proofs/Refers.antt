@@ -10,12 +10,12 @@ use Rattle.pd_plan.specs.declared.plan.BindingSpec.TheVariants.{Observe, Break, 
 use Rattle.pd_plan.specs.declared.plan.Act.TheVariants.{Attach, Dispose, Enable, Disable}
 use Rattle.pd_plan.specs.declared.plan.Action.TheVariants as actions
 use Rattle.pd_plan.specs.declared.plan.Plan.{Plan}
-use Rattle.pd_plan.specs.Sound.{AllBelow, IsObserver, BreakRefers, BindingRefers, ActRefers, ActionRefers, AnswerRefers, SessionRefers, PlanRefers}
+use Rattle.pd_plan.specs.Sound.{AllBelow, IsObserver, BreakRefers, BindingRefers, ActRefers, ActionRefers, AnswerRefers, SessionRefers, PlanRefers, IsSound}
 use Rattle.pd_plan_json.specs.Reading.{Read, ◌>>◌, refuse_if, under, member_step, entry_step}
 use Rattle.pd_plan_json.specs.References.{had, within, each, each_from, export_refers, context_refers, filter_refers, break_refers, binding_refers, act_refers, action_refers, answer_refers, session_refers, is_observer, observed, refers}
 use Rattle.pd_plan_json.specs.Tables.{plan}
 use Rattle.pd_plan_json.specs.Whole.{plan_of, plan_at, data_of}
-use Rattle.pd_plan_json.proofs.Fits.{bind_ok, under_ok}
+use Rattle.pd_plan_json.proofs.Fits.{bind_ok, under_ok, plan_fits}
 
 abbrev pub Shows : {A : Type 0} → (A → Read ⊤) → (A → Type 0) → Type 0
 Shows {A} rule P = (x : A) → rule x ≡ Ok tt → P x
