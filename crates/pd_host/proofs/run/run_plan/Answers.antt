@@ -27,9 +27,10 @@ run_all-requires-clause-can g c κs within =
     c.in_ok-tasks.tasks.items c.in_ok-tasks.ensures
 
 pub outcomes_of-requires : goal.outcomes_of-requires
-outcomes_of-requires g c =
-    begun_own c.in_ok-done.done.items
-    (none_waits c.args.plan.now c.args.program.now c.attach_all.new.seat c.run_all.new.first c.in_ok-tasks.tasks.items _ _ c.in_ok-done.ensures.done)
+outcomes_of-requires g c = record {
+  begun = begun_own c.in_ok-done.done.items
+      (none_waits c.args.plan.now c.args.program.now c.attach_all.new.seat c.run_all.new.first c.in_ok-tasks.tasks.items _ _ c.in_ok-done.ensures.done);
+}
 
 abbrev had_run : (g : _) (c : goal.In_ok-records g) → HasRun c.args.plan.now c.args.program.now c.sit-first.result c.attach_all.new.seat c.run_all.new.first (map (λ v. v.items) c.in_ok-befores.befores.items) c.in_ok-tasks.tasks.items (map (λ d. d.own) c.in_ok-done.done.items) (map (λ d. d.sights) c.in_ok-done.done.items)
 had_run g c = record {
