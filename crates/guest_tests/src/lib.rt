@@ -11,7 +11,7 @@ mod showing;
 #[cfg(test)]
 use crate::plans::{answer, breakpoint, compared, observer, plan};
 #[cfg(test)]
-use crate::running::{record_of, record_on_seat};
+use crate::running::record_of;
 #[cfg(test)]
 use crate::showing::shown;
 #[cfg(test)]
@@ -114,35 +114,6 @@ fn a_frame_is_entered_again(rt: HostRuntime) -> Result<(), Fail> {
     let text =
         "function f(a) {\n  println(a);\n  a = a + 1;\n  return a;\n}\nfunction main() {\n  println(f(1));\n}\n";
     let record = record_of(&rt, alloc, text, &plan)?;
-    assert_eq!(rt; record.used, 28);
-    assert_eq!(rt; record.output.as_str(), "1\n1\n2\n");
-    assert_eq!(rt;
-        shown(alloc, &record)?.as_str(),
-        "26 s0 a0 Before n9: Hit { binding: 0, place: 0, cannot: false } | 2 frames\n\
-         32 s0 a1 Before n2: Step | 2 frames\n\
-         0: 26@0\n\
-         1: 10@0 29@1 30@2 51@3\n"
-    );
-    Ok(())
-}
-
-#[test]
-fn a_frame_is_entered_again_over_a_seat(rt: HostRuntime) -> Result<(), Fail> {
-    let alloc = rt.alloc();
-    let answers = [
-        answer(alloc, Resume::Reenter(0)),
-        answer(alloc, Resume::Continue),
-        answer(alloc, Resume::Continue),
-        answer(alloc, Resume::Continue),
-    ];
-    let plan = plan(
-        alloc,
-        [breakpoint(4, None, 0, true), observer(alloc)?],
-        answers,
-    )?;
-    let text =
-        "function f(a) {\n  println(a);\n  a = a + 1;\n  return a;\n}\nfunction main() {\n  println(f(1));\n}\n";
-    let record = record_on_seat(&rt, alloc, text, &plan)?;
     assert_eq!(rt; record.used, 28);
     assert_eq!(rt; record.output.as_str(), "1\n1\n2\n");
     assert_eq!(rt;

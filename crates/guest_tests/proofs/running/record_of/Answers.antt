@@ -1,7 +1,7 @@
 -- The scripts of a sound plan answer lawfully.
 use Rattle.std.proofs.Common.{sym, subst, ap, ◌∙◌}
 use Rattle.pd_suspend.specs.Answers.{IsLawful, scripted}
-use Rattle.guest_tests.proofs.running.run_on.Goals as goal
+use Rattle.guest_tests.proofs.running.record_of.Goals as goal
 
 pub run_context-requires-clause-lawful : goal.run_context-requires-clause-lawful
 run_context-requires-clause-lawful g c κs = λ x a given.
