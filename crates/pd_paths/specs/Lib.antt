@@ -1,0 +1,4 @@
+-- Definitions, which public contracts cite.
+pub mod Tree
+pub mod Tally
+pub mod Laws
