@@ -14,8 +14,8 @@ use Rattle.pd_paths.specs.declared.PathCount.{PathCount}
 use Rattle.pd_paths.specs.Tree.{begins_root, count_of, has_path, IsCounted, IsCallTree}
 use Rattle.pd_paths.specs.Tally.{amount, is_path, paths_full, all_some, IsTally}
 use Rattle.pd_paths.proofs.Amounts.{path_of, path_push}
-use Rattle.pd_paths.proofs.Counted.{begins_at, count_stacked, tally_amounts}
-use Rattle.pd_paths.proofs.Order.{each_once, is_there}
+use Rattle.pd_paths.proofs.Told.{begins_at, count_stacked, tally_amounts}
+use Rattle.pd_paths.proofs.Rises.{each_once, is_there}
 
 -- ---- no activation has the empty path
 

@@ -2,3 +2,5 @@
 pub mod Tree
 pub mod Tally
 pub mod Laws
+-- For the proofs.
+pub mod Counting

@@ -23,7 +23,7 @@ IsAdditive w = (a b c d : ℕ) → w (a + c) (b + d) ≡ w a b + w c d
 
 -- that number of a path
 abbrev pub number : (ℕ → ℕ → ℕ) → PathCount → ℕ
-number w x = w x.count x.own
+number w = λ x. w x.count x.own
 
 -- ---- over entries
 

@@ -1,9 +1,15 @@
 //! The paths of calls of a run, counted over the log of its functions and procedures.
 #![tactic(auto)]
 
+mod counter;
+mod counting;
+mod order;
+
 ghost use Rattle.pd_paths.specs.Laws.{TalliesAreTrees, SumsAreWhole};
 
 use pd_values::{Items, NodeId};
+
+pub use counting::counted;
 
 /// A path of functions and procedures, the outermost first: how many activations have it, and how many events belong to
 /// them.

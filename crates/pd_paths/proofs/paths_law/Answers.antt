@@ -1,5 +1,5 @@
 -- The laws are proved of the definitions.
-use Rattle.pd_paths.proofs.Counted.{sums_whole}
+use Rattle.pd_paths.proofs.Told.{sums_whole}
 use Rattle.pd_paths.proofs.Trees.{tally_is_tree}
 use Rattle.pd_paths.proofs.paths_law.Goals as goal
 
