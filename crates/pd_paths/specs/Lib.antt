@@ -1,5 +1,6 @@
 -- Definitions, which public contracts cite.
 pub mod Tree
+pub mod Text
 pub mod Tally
 pub mod Laws
 -- For the proofs.
