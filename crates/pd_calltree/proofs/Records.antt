@@ -145,9 +145,10 @@ module _ (plan : Plan) (p : Program) (b : ℕ) (suits : is_for_tree plan b ≡ t
 
   sums_in : AreRooted p → (c : ℕ) (rs : List ContextRecord) (ss : List Sights) (ts : List (List PathCount)) → AreContexts (IsScripted plan) plan p c rs ss → AreWhole plan p b c rs → AreTallied b rs ts → AreSummedIn plan p c rs ts
   sums_in rooted c [] [] [] a w t = tt
-  sums_in rooted c (r ∷ rs) (s ∷ ss) (x ∷ xs) a w t =
-      (sums_whole p (events_of plan p c r) x (nested_in c r) (covered_run p (verdicts_of r.stops) (fuel_at plan c) (slice_index p.entries c) (rooted (slice_index p.entries c))) (tally_in c r x w.0 a.0.run.events t.0),
-          sums_in rooted (suc c) rs ss xs a.1 w.1 t.1)
+  sums_in rooted c (r ∷ rs) (s ∷ ss) (x ∷ xs) a w t = (
+    sums_whole p (events_of plan p c r) x (nested_in c r) (covered_run p (verdicts_of r.stops) (fuel_at plan c) (slice_index p.entries c) (rooted (slice_index p.entries c))) (tally_in c r x w.0 a.0.run.events t.0),
+    sums_in rooted (suc c) rs ss xs a.1 w.1 t.1,
+  )
   sums_in rooted c [] (s ∷ ss) ts a w t = absurd a
   sums_in rooted c (r ∷ rs) [] ts a w t = absurd a
   sums_in rooted c [] [] (x ∷ xs) a w t = absurd t

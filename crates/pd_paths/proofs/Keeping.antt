@@ -115,9 +115,11 @@ kept_raised i c o xs outer inner k =
 
 begun_push : (xs : List PathCount) (x : PathCount) → nat_lt 0 x.count ≡ true → is_path x.path ≡ true → AreBegun xs → AreBegun (xs ++ x ∷ [])
 begun_push [] x s f h = absurd h
-begun_push (y ∷ ys) x s f h =
-    (h.0, list_all-append (λ (z : PathCount). nat_lt 0 z.count) ys (x ∷ []) ∙ and_from _ _ h.1 (and_from _ _ s refl),
-        list_all-append (λ (z : PathCount). is_path z.path) ys (x ∷ []) ∙ and_from _ _ h.2 (and_from _ _ f refl))
+begun_push (y ∷ ys) x s f h = (
+  h.0,
+  list_all-append (λ (z : PathCount). nat_lt 0 z.count) ys (x ∷ []) ∙ and_from _ _ h.1 (and_from _ _ s refl),
+  list_all-append (λ (z : PathCount). is_path z.path) ys (x ∷ []) ∙ and_from _ _ h.2 (and_from _ _ f refl),
+)
 
 module _ (xs : List PathCount) (outer : List ℕ) (inner next : ℕ → Option ℕ) (k : IsKept xs outer inner) (x : PathCount) (at node : ℕ)
     (within : at < length xs) (small : node < 2 ^ 32) (is : x.path ≡ path_at xs at ++ node ∷ []) (some : nat_lt 0 x.count ≡ true)
@@ -172,9 +174,11 @@ module _ (xs : List PathCount) (outer : List ℕ) (inner next : ℕ → Option �
   sound_push a n i h e = ⊎_elim
       (λ (q : slot a n ≡ slot at node).
       let s = same_slot a at n node h small q in
-      let j : i ≡ length xs = sym (same_Some (length xs) i (sym here ∙ ap next (sym q) ∙ e)) in
-      (subst (λ b. b < length all) (sym s.0) (wider at within), last i j,
-          new_path i j ∙ is ∙ ap (λ b. path_at xs b ++ node ∷ []) (sym s.0) ∙ ap (λ m. path_at xs a ++ m ∷ []) (sym s.1) ∙ ap (λ p. p ++ n ∷ []) (sym (old_path a (subst (λ b. b < length xs) (sym s.0) within)))))
+      let j : i ≡ length xs = sym (same_Some (length xs) i (sym here ∙ ap next (sym q) ∙ e)) in (
+        subst (λ b. b < length all) (sym s.0) (wider at within),
+        last i j,
+        new_path i j ∙ is ∙ ap (λ b. path_at xs b ++ node ∷ []) (sym s.0) ∙ ap (λ m. path_at xs a ++ m ∷ []) (sym s.1) ∙ ap (λ p. p ++ n ∷ []) (sym (old_path a (subst (λ b. b < length xs) (sym s.0) within))),
+      ))
       (λ (q : slot a n ≡ slot at node → ⊥).
       let u = k.sound a n i h (sym (apart (slot a n) q) ∙ e) in
       (wider a u.0, wider i u.1, old_path i u.1 ∙ u.2 ∙ ap (λ p. p ++ n ∷ []) (sym (old_path a u.0))))

@@ -8,9 +8,8 @@ mod text;
 
 ghost use Rattle.pd_paths.specs.Laws.{TalliesAreTrees, SumsAreWhole};
 
-use pd_values::{Items, NodeId};
-
 pub use counting::counted;
+use pd_values::{Items, NodeId};
 pub use text::push_tree;
 
 /// A path of functions and procedures, the outermost first: how many activations have it, and how many events belong to

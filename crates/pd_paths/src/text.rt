@@ -55,11 +55,7 @@ fn push_path(text: &mut String, program: &Program, path: &PathCount) -> Result<(
     text.push_str("\n")
 }
 
-fn push_paths(
-    text: &mut String,
-    program: &Program,
-    paths: &[PathCount],
-) -> Result<(), AllocError>
+fn push_paths(text: &mut String, program: &Program, paths: &[PathCount]) -> Result<(), AllocError>
     ensures { OnOk result (string_bytes text.new ≡ string_bytes text.old ++ flat_map (path_text program.now) paths.now) }
 {
     for path in paths {
