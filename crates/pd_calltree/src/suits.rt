@@ -1,11 +1,13 @@
 //! Which bindings a call tree is made of.
 ghost use Rattle.std.specs.Prelude.{◌≡◌, ◌==◌, ◌&&◌, not};
 ghost use Rattle.std.specs.List.{list_all, list_any};
-ghost use Rattle.pd_steady.specs.Steady.{may_stop, action_may_stop, answer_spares, script_spares};
-ghost use Rattle.pd_calltree.specs.Suits.{are_roots, asks_tags_alone, is_for_tree};
+ghost use Rattle.pd_filter.specs.Matching.{is_empty};
+ghost use Rattle.pd_break.specs.Hits.{is_observer};
+ghost use Rattle.pd_steady.specs.Steady.{may_stop, action_may_stop, answer_spares, script_spares, is_attached_before};
+ghost use Rattle.pd_calltree.specs.Suits.{are_roots, asks_tags_alone, observes_roots, is_for_tree};
 
 use pd_plan::{Act, Action, Answer, BindingSpec, Filter, Plan, Script};
-use pd_values::Tag;
+use pd_values::{Items, Tag};
 
 // Whether an act disposes the binding or switches it off.
 fn may_stop(binding: u32, act: Act) -> bool
@@ -98,15 +100,39 @@ fn is_attached_before(binding: u32, scripts: &[Script]) -> bool
     false
 }
 
-// Whether a filter asks for functions and procedures, and for nothing else.
-fn asks_roots_alone(filter: &Filter) -> bool
-    ensures { result ≡ (are_roots filter.now.tags && asks_tags_alone filter.now) }
+fn is_empty<T: Drop>(list: &Items<T>) -> bool
+    ensures { result ≡ is_empty list.now }
 {
-    matches!(filter.tags.as_slice(), [Tag::Root])
-        && filter.not_tags.is_empty()
-        && filter.sources.is_empty()
-        && filter.lines.is_empty()
-        && filter.roots.is_empty()
+    matches!(list.as_slice(), [])
+}
+
+// Whether these tags are that of functions and procedures alone.
+fn are_roots(tags: &[Tag]) -> bool
+    ensures { result ≡ are_roots tags.now }
+{
+    matches!(tags, [Tag::Root])
+}
+
+// Whether a filter asks for tags, and for nothing else.
+fn asks_tags_alone(filter: &Filter) -> bool
+    ensures { result ≡ asks_tags_alone filter.now }
+{
+    is_empty(&filter.not_tags)
+        && (is_empty(&filter.sources) && (is_empty(&filter.lines) && is_empty(&filter.roots)))
+}
+
+// Whether a binding is a steady observer of functions and procedures alone.
+fn suits(plan: &Plan, binding: u32, spec: &BindingSpec) -> bool
+    ensures { result ≡ ((is_observer spec.now && (is_attached_before plan.now binding && list_all (script_spares binding) plan.now.sessions)) && observes_roots spec.now) }
+{
+    let scripts = plan.sessions.as_slice();
+    match spec {
+        BindingSpec::Observe(filter) => {
+            (is_attached_before(binding, scripts) && scripts_spare(binding, scripts))
+                && (are_roots(filter.tags.as_slice()) && asks_tags_alone(filter))
+        }
+        _ => false,
+    }
 }
 
 /// Whether a call tree can be made of the plan's binding of this number: an observer of functions and procedures, and of
@@ -115,13 +141,8 @@ fn asks_roots_alone(filter: &Filter) -> bool
 pub fn is_for_tree(plan: &Plan, binding: u32) -> bool
     ensures { result ≡ is_for_tree plan.now binding }
 {
-    let scripts = plan.sessions.as_slice();
     match plan.bindings.get(binding as usize) {
-        Some(BindingSpec::Observe(filter)) => {
-            is_attached_before(binding, scripts)
-                && scripts_spare(binding, scripts)
-                && asks_roots_alone(filter)
-        }
-        _ => false,
+        Some(spec) => suits(plan, binding, spec),
+        None => false,
     }
 }

@@ -18,11 +18,11 @@ fn push_trees(
 ) -> Result<(), AllocError>
     ensures { OnOk result (string_bytes text.new ≡ string_bytes text.old ++ trees_text program.now 0 contexts.now trees.now) }
 {
-    let mut number = 0;
-    while number < contexts.len() && number < trees.len() {
+    let count = contexts.len().min(trees.len());
+    for number in 0..count {
         let events = contexts[number].events;
-        push_tree(text, program, number, events, trees[number].as_slice())?;
-        number += 1;
+        let tree = &trees[number];
+        push_tree(text, program, number, events, tree.as_slice())?;
     }
     Ok(())
 }
