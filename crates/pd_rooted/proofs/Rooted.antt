@@ -12,7 +12,7 @@ use Rattle.pd_load.specs.Loading.{IsLoaded}
 use Rattle.pd_nesting.specs.Nesting.{AreRooted}
 use Rattle.pd_nesting.proofs.Rooted.{linked_rooted}
 
-made : (p q : Program) → AreRooted q → Ok {E = LoadRefusal} q ≡ Ok p → AreRooted p
+made : (p q : Program) → AreRooted q → ◌≡◌ {A = Result Program LoadRefusal} (Ok q) (Ok p) → AreRooted p
 made p q h e = let same : q ≡ p = cc in subst AreRooted same h
 
 entries_made : (p : Program) (make : List ℕ → Program) → ((entries : List ℕ) → AreRooted (make entries)) → (r : Result (List ℕ) LoadRefusal) → and_then r (λ entries. Ok (make entries)) ≡ Ok p → AreRooted p
