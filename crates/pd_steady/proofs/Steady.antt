@@ -63,7 +63,7 @@ sessions_spare plan answers b s (x ∷ xs) (r ∷ rs) (l ∷ ls) h a =
     let parts = and_parts (script_spares b x) (list_all (script_spares b) xs) h in
     let own = and_parts (list_all (λ y. not (action_may_stop b y)) x.actions) (list_all (answer_spares b) x.answers) parts.0 in
     all_both (spares b) (filter_map sessions.act_in r.actions) (flat_map (λ ys. ys) (map (λ r. filter_map sessions.act_in r.actions) rs))
-    (actions_spare b x.actions r.actions a.0.each own.0)
+    (actions_spare b x.actions r.actions a.0.results.each own.0)
     (sessions_spare plan answers b (suc s) xs rs ls parts.1 a.1)
 sessions_spare plan answers b s [] [] (l ∷ ls) h a = absurd a
 sessions_spare plan answers b s [] (r ∷ rs) [] h a = absurd a
