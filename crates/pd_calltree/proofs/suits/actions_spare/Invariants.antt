@@ -1,9 +1,8 @@
-use Rattle.std.proofs.Common.{◌≡◌, true, false, not, take}
-use Rattle.std.specs.Prelude.{◌==◌}
-use Rattle.std.specs.List.{list_all, list_any}
+use Rattle.std.proofs.Common.{◌≡◌, not, drop}
+use Rattle.std.specs.List.{list_all}
 use Rattle.pd_steady.specs.Steady.{action_may_stop}
 use Rattle.pd_calltree.proofs.suits.actions_spare.Given as goal
 
--- none so far
+-- those that are left decide
 abbrev pub invariant-loop-action : goal.invariant-loop-action
-invariant-loop-action l = list_all (λ a. not (action_may_stop l.binding a)) (take l.action-index l.actions) ≡ true
+invariant-loop-action l = list_all (λ a. not (action_may_stop l.binding a)) (drop l.action-index l.actions) ≡ list_all (λ a. not (action_may_stop l.binding a)) l.actions

@@ -1,9 +1,8 @@
-use Rattle.std.proofs.Common.{◌≡◌, true, false, not, take}
-use Rattle.std.specs.Prelude.{◌==◌}
-use Rattle.std.specs.List.{list_all, list_any}
+use Rattle.std.proofs.Common.{◌≡◌, drop}
+use Rattle.std.specs.List.{list_all}
 use Rattle.pd_steady.specs.Steady.{script_spares}
 use Rattle.pd_calltree.proofs.suits.scripts_spare.Given as goal
 
--- none so far
+-- those that are left decide
 abbrev pub invariant-loop-script : goal.invariant-loop-script
-invariant-loop-script l = list_all (script_spares l.binding) (take l.script-index l.scripts) ≡ true
+invariant-loop-script l = list_all (script_spares l.binding) (drop l.script-index l.scripts) ≡ list_all (script_spares l.binding) l.scripts
