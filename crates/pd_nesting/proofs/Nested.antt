@@ -1,12 +1,12 @@
 -- Events in order are nested: the open activations are the same, told from the other end.
-use Rattle.std.proofs.Common.{◌≡◌, ℕ, suc, List, [], ◌∷◌, ◌++◌, map, refl, sym}
+use Rattle.std.proofs.Common.{ℕ, suc, List, [], ◌∷◌, ◌++◌, map, refl, sym}
 use Rattle.pd_machine.specs.declared.event.Event.{Event}
 use Rattle.pd_machine.specs.declared.event.EventKind.{EventKind}
 use Rattle.pd_machine.specs.declared.event.EventKind.TheVariants.{Enter, Return, Leave}
 use Rattle.pd_machine.specs.Events.{Told}
 use Rattle.pd_order.specs.Order.{open_with, Fits, AreInOrderFrom}
 use Rattle.pd_running.specs.Running.{is_enter}
-use Rattle.pd_running.specs.Nested.{Closing, Opening, IsNested}
+use Rattle.pd_running.specs.Nested.{Opening, IsNested}
 
 -- the outermost first, of a list with the innermost first
 abbrev turned : List Told → List Told

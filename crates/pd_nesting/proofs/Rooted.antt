@@ -1,5 +1,5 @@
 -- In a linked program the root of each item has its tag.
-use Rattle.std.proofs.Common.{◌≡◌, ℕ, zero, suc, ◌+◌, ◌≤◌, Bool, true, false, cond, List, [], ◌∷◌, length, Option, Some, None, refl, sym, ap, subst, ◌∙◌, ⊎_elim, arith}
+use Rattle.std.proofs.Common.{◌≡◌, ℕ, zero, suc, ◌+◌, Bool, true, false, cond, List, [], ◌∷◌, Option, Some, None, refl, sym, ap, subst, ◌∙◌, ⊎_elim, arith}
 use Rattle.std.specs.Prelude.{slice_index_or}
 use Rattle.std.proofs.lemmas.Bool.{cases_Bool}
 use Rattle.pd_values.specs.declared.value.Tag.TheVariants.{Root}
@@ -7,9 +7,9 @@ use Rattle.pd_tree.specs.declared.kind.Kind.{Kind}
 use Rattle.pd_tree.specs.declared.kind.Kind.TheVariants.{SlFunction, PlProcedure}
 use Rattle.pd_tree.specs.declared.kind.Meaning.{Meaning}
 use Rattle.pd_tree.specs.declared.addition.Addition.{Addition}
-use Rattle.pd_tree.specs.Program.{Program, Node, Item, node_at, item_at, no_node, no_item, has_tag}
+use Rattle.pd_tree.specs.Program.{Program, Node, Item, node_at, no_node, no_item, has_tag}
 use Rattle.pd_tree.specs.Kinds.{is_root, root_name_of, tags_of}
-use Rattle.pd_tree.specs.Linked.{Walk, walked, nodes_from, nodes_of, items_from, items_of, joined, program_of}
+use Rattle.pd_tree.specs.Linked.{Walk, walked, nodes_from, items_from, joined, program_of}
 use Rattle.pd_nesting.specs.Nesting.{is_rooted, AreRooted}
 
 tagged : (k : Kind) (m : Meaning) (stands : Bool) → is_root k ≡ true → has_tag (tags_of k m stands) Root ≡ true

@@ -1,5 +1,5 @@
 -- Definition: what holds of the events of every run, and of the roots of every linked program, as facts that a contract can promise.
-use Rattle.std.specs.Prelude.{◌≡◌, ℕ, Bool, true, false, not, List, [], ◌∷◌, bytes_eq, Option, None, Some}
+use Rattle.std.specs.Prelude.{◌≡◌, ℕ, Bool, true, not, List, [], bytes_eq, Option, None, Some}
 use Rattle.std.specs.List.{list_all}
 use Rattle.pd_tree.specs.declared.addition.Addition.{Addition}
 use Rattle.pd_tree.specs.Program.{Program, item_at}

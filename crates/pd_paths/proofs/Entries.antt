@@ -1,8 +1,8 @@
 -- The entries that are left.
-use Rattle.std.proofs.Common.{◌≡◌, ℕ, ◌+◌, ◌<◌, ◌≤◌, List, [], ◌∷◌, length, map, drop, refl, sym, ap, ◌∙◌, arith}
+use Rattle.std.proofs.Common.{◌≡◌, ℕ, ◌+◌, ◌<◌, ◌≤◌, List, [], ◌∷◌, length, map, drop, sym, ap, ◌∙◌}
 use Rattle.std.specs.Prelude.{slice_index_or}
 use Rattle.std.proofs.lemmas.List.{drop_more, drop_all, drop-map}
-use Rattle.pd_running.specs.Running.{Mark, mark_in}
+use Rattle.pd_running.specs.Running.{mark_in}
 use Rattle.pd_log.specs.declared.Entry.{Entry}
 
 pub next_entry : (log : List Entry) (k : ℕ) (e : Entry) → k < length log → e ≡ slice_index_or log k e → drop k (map mark_in log) ≡ mark_in e ∷ drop (k + 1) (map mark_in log)

@@ -1,5 +1,5 @@
 -- Entries are counted one by one.
-use Rattle.std.proofs.Common.{◌≡◌, ℕ, zero, suc, ◌+◌, ◌-◌, ◌<◌, ◌≤◌, ◌^◌, Bool, true, false, cond, List, [], ◌∷◌, ◌++◌, length, Option, None, Some, refl, sym, ap, subst, ◌∙◌, arith, ⊎_elim}
+use Rattle.std.proofs.Common.{◌≡◌, ℕ, zero, suc, ◌+◌, ◌-◌, ◌<◌, ◌≤◌, ◌^◌, Bool, true, false, cond, List, [], ◌∷◌, ◌++◌, length, None, Some, refl, sym, ap, subst, ◌∙◌, arith, ⊎_elim}
 use Rattle.std.specs.Prelude.{nat_lt, ◌==◌, slice_index, slice_index_or, slice_set}
 use Rattle.std.specs.Ordering.{nat_cmp, is_eq}
 use Rattle.std.specs.declared.cmp.Ordering.TheVariants.{Less, Equal, Greater}
@@ -14,7 +14,7 @@ use Rattle.pd_paths.specs.declared.PathCount.{PathCount}
 use Rattle.pd_paths.specs.declared.counter.Counter.{Counter}
 use Rattle.pd_paths.specs.Tally.{weigh, amount, IsAdditive, number, path_after, next_after, begun_by, tallied, AreRising}
 use Rattle.pd_paths.specs.Counting.{slot, no_path, path_at, raised, IsKept, inner_of, IsKeptBy, IsFirst, HasRoom, HasCount, IsCountedTo, IsBegunAt, IsStanding, IsUnderWay, HasPassed}
-use Rattle.pd_paths.proofs.Numbers.{amount_raised, amount_push, part_of, begun_length, rising_from, rising_bound, rising_next, owns_all, counts_few}
+use Rattle.pd_paths.proofs.Numbers.{amount_raised, amount_push, part_of, rising_from, rising_bound, owns_all, counts_few}
 use Rattle.pd_paths.proofs.Keeping.{length_push, length_raised, path_raised, kept_raised, kept_push, pushed_path}
 
 -- ---- one path is changed

@@ -1,5 +1,5 @@
 -- What was counted over all entries, sorted, are the paths that the entries tell.
-use Rattle.std.proofs.Common.{◌≡◌, ℕ, zero, suc, ◌+◌, ◌-◌, ◌<◌, ◌≤◌, Bool, true, false, ◌&&◌, not, List, [], ◌∷◌, length, refl, sym, ap, subst, ◌∙◌, arith, ⊎_elim}
+use Rattle.std.proofs.Common.{◌≡◌, ℕ, suc, ◌+◌, ◌-◌, ◌<◌, ◌≤◌, Bool, true, false, not, List, [], ◌∷◌, length, refl, sym, ap, subst, ◌∙◌, arith, ⊎_elim}
 use Rattle.std.specs.Prelude.{nat_lt, bytes_eq, slice_index_or}
 use Rattle.std.specs.Cmp.{IsStrictWeakOrder}
 use Rattle.std.specs.List.{list_all, remove, sum_by}
@@ -12,7 +12,7 @@ use Rattle.pd_running.specs.Running.{Mark}
 use Rattle.pd_paths.specs.declared.PathCount.{PathCount}
 use Rattle.pd_paths.specs.declared.counter.Counter.{Counter}
 use Rattle.pd_paths.specs.Tree.{is_before, paths_rise}
-use Rattle.pd_paths.specs.Tally.{weigh, amount, IsAdditive, number, tallied, is_path, paths_full, all_some, IsTally}
+use Rattle.pd_paths.specs.Tally.{weigh, amount, IsAdditive, number, tallied, is_path, IsTally}
 use Rattle.pd_paths.specs.Counting.{path_at, AreBegun, HasRoom, IsCountedTo, IsStanding}
 use Rattle.pd_paths.proofs.Rises.{before_trans, before_irrefl, before_total, path_self}
 use Rattle.pd_paths.proofs.Passing.{room_to}

@@ -1,12 +1,11 @@
 -- What the walk counts is what the definitions count, path by path and in all.
-use Rattle.std.proofs.Common.{◌≡◌, ℕ, zero, suc, ◌+◌, ◌≤◌, Bool, true, false, ◌&&◌, not, cond, List, [], ◌∷◌, ◌++◌, length, map, refl, sym, ap, subst, ◌∙◌, arith, ⊎_elim}
+use Rattle.std.proofs.Common.{◌≡◌, ℕ, suc, ◌+◌, Bool, true, false, ◌&&◌, cond, List, [], ◌∷◌, length, map, refl, sym, ap, ◌∙◌, arith}
 use Rattle.std.specs.Prelude.{filter, bytes_eq}
 use Rattle.std.specs.List.{list_all}
-use Rattle.std.proofs.lemmas.Bool.{cases_Bool, and_parts, and_from}
-use Rattle.std.proofs.lemmas.Slice.Eq.{bytes_eq-Decides}
+use Rattle.std.proofs.lemmas.Bool.{and_parts}
 use Rattle.pd_tree.specs.Program.{Program}
 use Rattle.pd_machine.specs.Events.{Told}
-use Rattle.pd_running.specs.Running.{is_enter, is_root_node, of_root, moments, path_at, Mark, marks_where}
+use Rattle.pd_running.specs.Running.{is_root_node, moments, marks_where}
 use Rattle.pd_running.specs.Nested.{IsNested}
 use Rattle.pd_running.specs.Laws.{next_open, run_at, stacked_by, running_with}
 use Rattle.pd_running.proofs.Stack.{stack_runs, none_stacked}

@@ -1,7 +1,7 @@
 -- What is counted over the entries of nested events is their call tree.
-use Rattle.std.proofs.Common.{◌≡◌, ℕ, zero, suc, ◌<◌, Bool, true, false, ◌&&◌, not, cond, List, [], ◌∷◌, ◌++◌, length, refl, sym, ap, ◌∙◌, arith}
+use Rattle.std.proofs.Common.{◌≡◌, ℕ, ◌<◌, Bool, true, false, ◌&&◌, cond, List, [], ◌∷◌, ◌++◌, length, refl, sym, ap, ◌∙◌, arith}
 use Rattle.std.specs.Prelude.{filter, bytes_eq, nat_lt}
-use Rattle.std.specs.List.{All, AllByRecursion}
+use Rattle.std.specs.List.{AllByRecursion}
 use Rattle.std.proofs.lemmas.Bool.{and_parts}
 use Rattle.std.proofs.lemmas.Bool.Decides.{nat_tests}
 use Rattle.std.proofs.lemmas.List.Elements.{All-from_recursion}
@@ -11,7 +11,7 @@ use Rattle.pd_running.specs.Running.{is_enter, is_root_node, of_root, marks_wher
 use Rattle.pd_running.specs.Nested.{IsNested}
 use Rattle.pd_running.specs.Laws.{next_open, run_by, run_at, stacked_by}
 use Rattle.pd_paths.specs.declared.PathCount.{PathCount}
-use Rattle.pd_paths.specs.Tree.{begins_root, count_of, has_path, IsCounted, IsCallTree}
+use Rattle.pd_paths.specs.Tree.{count_of, has_path, IsCounted, IsCallTree}
 use Rattle.pd_paths.specs.Tally.{amount, is_path, paths_full, all_some, IsTally}
 use Rattle.pd_paths.proofs.Amounts.{path_of, path_push}
 use Rattle.pd_paths.proofs.Told.{begins_at, count_stacked, tally_amounts}

@@ -1,5 +1,5 @@
 -- Definition: laws on call trees, as facts that a contract can promise.
-use Rattle.std.specs.Prelude.{◌≡◌, ℕ, Bool, true, not, List, [], filter, length, bytes_eq}
+use Rattle.std.specs.Prelude.{◌≡◌, true, not, List, [], filter, length, bytes_eq}
 use Rattle.std.specs.List.{list_all}
 use Rattle.pd_tree.specs.Program.{Program}
 use Rattle.pd_machine.specs.Events.{Told}

@@ -1,7 +1,7 @@
 -- Definition, which public contracts cite.
 -- The numbers of a call tree, as the log of all events of functions and procedures tells them. Events between two entries are counted by
 -- their numbers alone.
-use Rattle.std.specs.Prelude.{◌≡◌, ℕ, suc, ◌+◌, ◌-◌, ◌<◌, ◌≤◌, ◌&&◌, Bool, true, false, not, cond, nat_lt, List, [], ◌∷◌, ◌++◌, map, bytes_eq}
+use Rattle.std.specs.Prelude.{◌≡◌, ℕ, suc, ◌+◌, ◌-◌, ◌≤◌, Bool, true, false, not, cond, nat_lt, List, [], ◌∷◌, ◌++◌, bytes_eq}
 use Rattle.std.specs.List.{list_all}
 use Rattle.pd_running.specs.Running.{is_enter, Mark}
 use Rattle.pd_running.specs.Laws.{but_last}

@@ -1,11 +1,10 @@
-use Rattle.std.proofs.Common.{◌≡◌, ℕ, suc, ◌+◌, ◌<◌, ◌≤◌, List, [], ◌∷◌, length, map, drop, rules, refl, sym, ap, subst, ◌∙◌, arith}
+use Rattle.std.proofs.Common.{◌+◌, map, drop, rules, sym, subst}
 use Rattle.std.proofs.lemmas.List.Sorted.{answers_always}
-use Rattle.pd_running.specs.Running.{Mark, mark_in}
-use Rattle.pd_log.specs.declared.Entry.{Entry}
+use Rattle.pd_running.specs.Running.{mark_in}
 use Rattle.pd_paths.specs.Tally.{IsTally}
 use Rattle.pd_paths.specs.Counting.{IsStanding}
 use Rattle.pd_paths.proofs.Entries.{next_entry, no_entries}
-use Rattle.pd_paths.proofs.Sorting.{before, before_order, room_at_end, ended, some_path, tally_sorted}
+use Rattle.pd_paths.proofs.Sorting.{before, before_order, room_at_end, ended, tally_sorted}
 use Rattle.pd_paths.proofs.counting.counted.Goals as goal
 
 pub pass-requires : goal.pass-requires

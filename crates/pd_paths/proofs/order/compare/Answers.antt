@@ -1,4 +1,4 @@
-use Rattle.std.proofs.Common.{◌≡◌, ◌<◌, length, ap, ◌∙◌, arith}
+use Rattle.std.proofs.Common.{◌<◌, length, ap, ◌∙◌, arith}
 use Rattle.std.specs.Ordering.{is_lt}
 use Rattle.pd_paths.proofs.Compared.{at_end}
 use Rattle.pd_paths.proofs.order.compare.Goals.{then-loop-i-test+else-i-b, else-loop-i-test}

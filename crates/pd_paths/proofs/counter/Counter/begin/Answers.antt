@@ -1,4 +1,4 @@
-use Rattle.std.proofs.Common.{◌≡◌, ℕ, ◌+◌, ◌<◌, ◌≤◌, length, Some, true, refl, sym, ap, ◌∙◌, arith}
+use Rattle.std.proofs.Common.{◌≡◌, ◌<◌, ◌≤◌, length, Some, true, refl, sym, ◌∙◌, arith}
 use Rattle.pd_paths.specs.Tally.{amount}
 use Rattle.pd_paths.specs.Counting.{slot, inner_of}
 use Rattle.pd_paths.proofs.Passing.{part_at, raised_count, begun_old}

@@ -1,4 +1,4 @@
-use Rattle.std.proofs.Common.{◌≡◌, ℕ, ◌+◌, ◌-◌, ◌≤◌, true, refl, arith}
+use Rattle.std.proofs.Common.{◌-◌, ◌≤◌, true, refl, arith}
 use Rattle.pd_paths.specs.Tally.{amount}
 use Rattle.pd_paths.proofs.Passing.{part_at, raised_own, counted_to}
 use Rattle.pd_paths.proofs.counter.Counter.count_to.Goals as goal

@@ -1,4 +1,4 @@
-use Rattle.std.proofs.Common.{◌≡◌, ℕ, ◌+◌, ◌<◌, ◌++◌, ◌∷◌, [], length, refl, sym, ap, ◌∙◌, arith}
+use Rattle.std.proofs.Common.{◌≡◌, ◌+◌, ◌++◌, ◌∷◌, [], length, refl, ap, ◌∙◌, arith}
 use Rattle.pd_paths.proofs.Numbers.{begun_length}
 use Rattle.pd_paths.proofs.Passing.{path_is, begun_new}
 use Rattle.pd_paths.proofs.counter.Counter.grow.Goals as goal

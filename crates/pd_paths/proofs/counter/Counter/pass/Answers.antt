@@ -1,4 +1,4 @@
-use Rattle.std.proofs.Common.{◌≡◌, ℕ, suc, ◌+◌, ◌<◌, length, refl, sym, ap, ◌∙◌, arith}
+use Rattle.std.proofs.Common.{◌+◌, ◌<◌, length, ap, ◌∙◌, arith}
 use Rattle.pd_paths.specs.declared.counter.Counter.{Counter}
 use Rattle.pd_running.specs.Running.{is_enter, mark_in}
 use Rattle.pd_paths.proofs.Passing.{room_next, count_fits, event_fits, passed_enter, passed_end, not_enter, at_any}
