@@ -1,3 +1,4 @@
 pub mod Contexts
+pub mod Reads
 pub mod Records
 pub mod Texts
