@@ -1,4 +1,0 @@
-pub mod Contexts
-pub mod Reads
-pub mod Records
-pub mod Texts

@@ -1,2 +1,0 @@
--- Definitions, which public contracts cite.
-pub mod Rooted
