@@ -1,0 +1,4 @@
+pub mod Covering
+pub mod Covered
+pub mod Nested
+pub mod Rooted
