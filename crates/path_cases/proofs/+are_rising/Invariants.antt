@@ -1,0 +1,6 @@
+-- Each call has a shorter log.
+use Rattle.std.proofs.Common.{length}
+use Rattle.path_cases.proofs.+are_rising.Given as goal
+
+abbrev pub decreases-are_rising : goal.decreases-are_rising
+decreases-are_rising l = length l.log.now
