@@ -1,6 +1,6 @@
 -- In the report of a plan's run no two entries of a binding have one place.
-use Rattle.std.proofs.Common.{◌≡◌, ℕ, zero, suc, ◌+◌, ◌<◌, ◌≤◌, ◌==◌, ◌&&◌, Bool, true, false, cond, List, [], ◌∷◌, ◌++◌, map, filter, length, refl, sym, ap, subst, arith, count_by, ◌∙◌, if◌then◌else◌, slice_index_or, None, inl, inr}
-use Rattle.std.specs.Prelude.{flat_map, slice_index}
+use Rattle.std.proofs.Common.{◌≡◌, ℕ, zero, suc, ◌+◌, ◌<◌, ◌≤◌, ◌==◌, ◌&&◌, Bool, true, false, cond, List, [], ◌∷◌, ◌++◌, map, filter, length, refl, ap, arith, count_by, ◌∙◌, if◌then◌else◌, slice_index_or, None, inl, inr}
+use Rattle.std.specs.Prelude.{flat_map}
 use Rattle.std.specs.List.{filter_map, cons_option, range_with_len}
 use Rattle.std.specs.Option.{option_map}
 use Rattle.std.proofs.lemmas.Bool.{cases_lt, cases_Bool}
@@ -9,8 +9,6 @@ use Rattle.std.proofs.lemmas.List.Sums.{sum_by-cons, sum_by-append}
 use Rattle.std.proofs.lemmas.List.Elements.{filter_map-append}
 use Rattle.pd_tree.specs.Program.{Program}
 use Rattle.pd_machine.specs.Events.{Told}
-use Rattle.pd_order.specs.Order.{AreInOrderFrom}
-use Rattle.pd_order.proofs.Runs.{meaning_ordered}
 use Rattle.pd_machine.specs.declared.event.Event.{Event}
 use Rattle.pd_plan.specs.declared.plan.Plan.{Plan}
 use Rattle.pd_log.specs.declared.Entry.{Entry}
@@ -20,15 +18,14 @@ use Rattle.pd_board.specs.declared.answers.Sight.{Sight}
 use Rattle.pd_board.specs.Answers.{number_of, number_in}
 use Rattle.pd_board.specs.Kept.{numbers_of, place_of}
 use Rattle.pd_suspend.specs.Laws.{AreNumbered}
-use Rattle.pd_suspend.specs.Stops.{verdicts_of}
 use Rattle.pd_suspend.specs.declared.context.ContextRecord.{ContextRecord}
 use Rattle.pd_suspend.specs.declared.suspension.Suspension.{Suspension}
-use Rattle.pd_record.specs.Record.{fuel_at}
 use Rattle.pd_record.specs.Logs.{is_of, answer_at, is_subject, entry_of, delivery, log_of}
 use Rattle.pd_shared.specs.declared.sights.Sights.{Sights}
 use Rattle.pd_run.specs.declared.report.Report.{Report}
 use Rattle.pd_run.specs.Part.{Part}
 use Rattle.pd_run.specs.Run.{events_of, AreContexts, parts_of, IsRunBy}
+use Rattle.pd_run.proofs.Ordered.{events_numbered}
 use Rattle.pd_report.specs.Logs.{entries_of, PlacesAreApart}
 
 -- how many entries have the place, and how often a number stands in a list
@@ -139,19 +136,6 @@ log_is_taken c plan p seen events b x numbered =
     let taken = given_is_taken seen b x (length events) in
     omega (arith, log, same, taken)
 
--- ---- the numbers of events
-
-numbered_from : (n : ℕ) (open_ones : List Event) (ts : List Told) → AreInOrderFrom n open_ones ts → map (λ (t : Told). t.event.number) ts ≡ range_with_len n (length ts)
-numbered_from n open_ones [] h = refl
-numbered_from n open_ones (t ∷ ts) h = ap (λ k. k ∷ map (λ (u : Told). u.event.number) ts) h.0.0 ∙ ap (λ ks. n ∷ ks) (numbered_from (suc n) _ ts h.1 ∙ ap (λ m. range_with_len m (length ts)) (next n))
-  where
-    next : (m : ℕ) → suc m ≡ m + 1
-    next m = omega arith
-
--- the events of each context of a run are those of a program's meaning, which come in order
-run_numbered : (plan : Plan) (p : Program) (c : ℕ) (r : ContextRecord) → AreNumbered (events_of plan p c r)
-run_numbered plan p c r = numbered_from 0 [] (events_of plan p c r) (meaning_ordered p (verdicts_of r.stops) (fuel_at plan c) (slice_index p.entries c))
-
 -- ---- all contexts
 
 all_taken : (given : ℕ → Suspension → Type 0) (plan : Plan) (p : Program) (b x c : ℕ) (rs : List ContextRecord) (ss : List Sights) → b < length plan.bindings
@@ -162,7 +146,7 @@ all_taken given plan p b x c [] (s ∷ ss) below are = absurd are
 all_taken given plan p b x c (r ∷ rs) [] below are = absurd are
 all_taken given plan p b x c (r ∷ rs) (s ∷ ss) below are =
     let log = ap (having x) ((are.0).logs b below).log in
-    let one = log_is_taken c plan p r.seen (events_of plan p c r) b x (run_numbered plan p c r) in
+    let one = log_is_taken c plan p r.seen (events_of plan p c r) b x (events_numbered plan p c r) in
     let rest = all_taken given plan p b x (suc c) rs ss below are.1 in
     let more = having_both x (slice_index_or r.logs b []) (entries_of b rs) in
     let flat = ap (times x) (filter_map-append (number_in b) r.seen (flat_map (λ (y : Part). y.seen) (parts_of plan p (suc c) rs))) in

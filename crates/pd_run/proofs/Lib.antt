@@ -4,5 +4,6 @@ pub mod Told
 pub mod Numbers
 pub mod Scripts
 pub mod Records
+pub mod Ordered
 pub mod Runs
 pub mod ByEvent

@@ -151,4 +151,4 @@ one_after Q R event false r ds weak more h = after_cons R r (kept ds) (weak [] r
 
 pub after_kept : (Q R : List ActResult → ActResult → Type 0) (ds : List Deed) → ((es : List Deed) (x : ActResult) → Q (all es) x → R (kept es) x) → EachAfter Q (all ds) → EachAfter R (kept ds)
 after_kept Q R [] weak h = after_none R
-after_kept Q R (d ∷ ds) weak h = one_after Q R d.event d.own d.reply ds weak (λ Q2 R2. after_kept Q2 R2 ds) h
+after_kept Q R (d ∷ ds) weak h = one_after Q R d.event d.own d.reply ds weak (λ whole part. after_kept whole part ds) h
