@@ -3,10 +3,10 @@ use Rattle.std.proofs.Common.{◌≡◌, sym, ap, ◌∙◌, Bool, true, ◌&&�
 use Rattle.std.specs.List.{list_all}
 use Rattle.pd_tree.specs.Program.{Program, item_at}
 use Rattle.pd_meaning.specs.Meaning.{Verdicts, meaning_of}
-use Rattle.pd_running.specs.Running.{moments}
+use Rattle.pd_running.specs.Running.{moments, IsCovered}
 use Rattle.pd_running.specs.Laws.{running_with}
 use Rattle.pd_running.proofs.Stack.{stack_runs, none_stacked}
-use Rattle.pd_nesting.specs.Nesting.{IsCovered, is_rooted}
+use Rattle.pd_nesting.specs.Nesting.{is_rooted}
 use Rattle.pd_nesting.proofs.Covering.{meaning_in, is_in}
 
 all_map : {A B : Type 0} (f : B → Bool) (g : A → B) (xs : List A) → list_all f (map g xs) ≡ list_all (λ x. f (g x)) xs

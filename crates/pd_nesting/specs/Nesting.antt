@@ -1,24 +1,16 @@
 -- Definition: what holds of the events of every run, and of the roots of every linked program, as facts that a contract can promise.
-use Rattle.std.specs.Prelude.{◌≡◌, ℕ, Bool, true, not, List, [], bytes_eq, Option, None, Some}
-use Rattle.std.specs.List.{list_all}
+use Rattle.std.specs.Prelude.{◌≡◌, ℕ, Bool, true, List, [], Option, None, Some}
 use Rattle.pd_tree.specs.declared.addition.Addition.{Addition}
 use Rattle.pd_tree.specs.Program.{Program, item_at}
 use Rattle.pd_tree.specs.Linked.{program_of}
 use Rattle.pd_machine.specs.Events.{Told}
 use Rattle.pd_meaning.specs.Meaning.{Verdicts, meaning_of}
-use Rattle.pd_running.specs.Running.{is_root_node, path_at, moments}
+use Rattle.pd_running.specs.Running.{is_root_node, IsCovered}
 use Rattle.pd_running.specs.Nested.{IsNested}
 
 -- each event has its number, and each end is that of the innermost activation
 abbrev pub EventsAreNested : Type 0
 EventsAreNested = (p : Program) (v : Verdicts) (fuel entry : ℕ) → IsNested [] 0 (meaning_of p entry fuel v).events
-
-abbrev pub is_empty : List ℕ → Bool
-is_empty path = bytes_eq path []
-
--- some function or procedure runs at each of these events
-abbrev pub IsCovered : Program → List Told → Type 0
-IsCovered p events = list_all (λ (m : List Told × Told). not (is_empty (path_at p m.0 m.1))) (moments events) ≡ true
 
 -- whether a root, if there is one, has its tag
 abbrev pub is_rooted : Program → Option ℕ → Bool

@@ -5,14 +5,14 @@ use Rattle.std.specs.List.{list_all}
 use Rattle.std.proofs.lemmas.Bool.{and_parts}
 use Rattle.pd_tree.specs.Program.{Program}
 use Rattle.pd_machine.specs.Events.{Told}
-use Rattle.pd_running.specs.Running.{is_root_node, moments, marks_where}
+use Rattle.pd_running.specs.Running.{is_root_node, moments, marks_where, IsCovered}
 use Rattle.pd_running.specs.Nested.{IsNested}
 use Rattle.pd_running.specs.Laws.{next_open, run_at, stacked_by, running_with}
 use Rattle.pd_running.proofs.Stack.{stack_runs, none_stacked}
 use Rattle.pd_paths.specs.declared.PathCount.{PathCount}
 use Rattle.pd_paths.specs.Tree.{begins_root, count_of, own_of}
 use Rattle.pd_paths.specs.Tally.{weigh, amount, IsAdditive, tallied, is_path, paths_full, IsTally}
-use Rattle.pd_paths.specs.Laws.{IsCovered, IsSummed}
+use Rattle.pd_paths.specs.Laws.{IsSummed}
 use Rattle.pd_paths.proofs.Amounts.{path_of, counted, events_count}
 
 -- ---- lists

@@ -1,9 +1,8 @@
 -- Definition: laws on call trees, as facts that a contract can promise.
-use Rattle.std.specs.Prelude.{◌≡◌, true, not, List, [], filter, length, bytes_eq}
-use Rattle.std.specs.List.{list_all}
+use Rattle.std.specs.Prelude.{◌≡◌, true, List, [], filter, length}
 use Rattle.pd_tree.specs.Program.{Program}
 use Rattle.pd_machine.specs.Events.{Told}
-use Rattle.pd_running.specs.Running.{is_root_node, path_at, moments, marks_where}
+use Rattle.pd_running.specs.Running.{is_root_node, marks_where, IsCovered}
 use Rattle.pd_running.specs.Nested.{IsNested}
 use Rattle.pd_paths.specs.declared.PathCount.{PathCount}
 use Rattle.pd_paths.specs.Tree.{begins_root, IsCallTree}
@@ -18,9 +17,6 @@ pub record IsSummed (p : Program) (events : List Told) (tree : List PathCount) :
   pub count : amount (λ x. x.count) (λ q. true) tree ≡ length (filter (begins_root p) events)
   pub own : amount (λ x. x.own) (λ q. true) tree ≡ length events
 
--- some function or procedure runs at each event
-abbrev pub IsCovered : Program → List Told → Type 0
-IsCovered p events = list_all (λ (m : List Told × Told). not (bytes_eq (path_at p m.0 m.1) [])) (moments events) ≡ true
-
+-- and so they are where some function or procedure runs at each event
 abbrev pub SumsAreWhole : Type 0
 SumsAreWhole = (p : Program) (events : List Told) (tree : List PathCount) → IsNested [] 0 events → IsCovered p events → IsTally (length events) (marks_where (is_root_node p) events) tree → IsSummed p events tree

@@ -65,7 +65,7 @@ fn push_paths(text: &mut String, program: &Program, paths: &[PathCount]) -> Resu
 }
 
 /// Writes the call tree of a context behind a text: its number and that of its events, and then each path with its
-/// numbers. docs/FORMATS.md has the format. Where memory runs out it answers `AllocError`.
+/// numbers and the names of its functions and procedures. Where memory runs out it answers `AllocError`.
 pub fn push_tree(
     text: &mut String,
     program: &Program,
