@@ -15,8 +15,9 @@ use Rattle.pd_values.specs.declared.stop.Stop.TheVariants as stops
 use Rattle.pd_words.specs.declared.asked.WordFault.{WordFault}
 use Rattle.pd_words.specs.declared.asked.WordFault.TheVariants.{NoCommand, UnknownCommand, Refused}
 use Rattle.pd_words.specs.declared.asked.RunWords.{RunWords}
+use Rattle.pd_words.specs.declared.asked.BindingWords.{BindingWords}
 use Rattle.pd_words.specs.declared.asked.Command.{Command}
-use Rattle.pd_words.specs.declared.asked.Command.TheVariants.{Trace, Run, Check}
+use Rattle.pd_words.specs.declared.asked.Command.TheVariants.{Trace, Run, Check, Gen, Coverage, CallTree}
 
 -- the bytes of each word
 abbrev pub texts : List (String Global) → List (List ℕ)
@@ -56,6 +57,10 @@ run_app = with_rule (with_rule (with_rule (with_rule (command (codes "run")) fil
 abbrev pub gen_app : App
 gen_app = with_rule (command (codes "gen")) (number_rule (codes "number") 999999)
 
+-- a command of this name on one binding of a plan
+abbrev pub binding_app : List ℕ → App
+binding_app name = with_rule (with_rule (with_rule (command name) file_rule) (number_rule (codes "binding") 4095)) fuel_rule
+
 -- ---- what they find
 
 -- what a command finds in the words, of which the first is its name, where it takes them
@@ -85,6 +90,10 @@ abbrev pub number_of : ℕ → ℕ → Option (List ℕ) → Option ℕ
 number_of least most None = None
 number_of least most (Some text) = option_map_or (within least most) (number_in text) None
 
+-- the number up to `most` of an argument that must be there
+abbrev pub number_up_to : ℕ → List ℕ → List Row → ℕ
+number_up_to most id rows = unwrap_or (number_of 0 most (first_of id rows)) 0
+
 -- the file of a command that takes just that
 abbrev pub file_of : List ℕ → List (List ℕ) → Option (List ℕ)
 file_of name words = option_map (text_in (codes "file")) (matched (file_app name) words)
@@ -102,11 +111,19 @@ abbrev pub run_of : List (List ℕ) → Option RunWords
 run_of words = option_map run_in (matched run_app words)
 
 -- the number of `gen`
-abbrev pub number_of_gen : List Row → ℕ
-number_of_gen rows = unwrap_or (number_of 0 999999 (first_of (codes "number") rows)) 0
-
 abbrev pub gen_of : List (List ℕ) → Option ℕ
-gen_of words = option_map number_of_gen (matched gen_app words)
+gen_of words = option_map (number_up_to 999999 (codes "number")) (matched gen_app words)
+
+-- the plan, the binding and the fuel of a command on one binding
+abbrev pub binding_in : List Row → BindingWords
+binding_in rows = record {
+  plan = text_in (codes "file") rows;
+  binding = number_up_to 4095 (codes "binding") rows;
+  fuel = number_of 1 16777216 (first_of (codes "fuel") rows);
+}
+
+abbrev pub binding_of : List ℕ → List (List ℕ) → Option BindingWords
+binding_of name words = option_map binding_in (matched (binding_app name) words)
 
 -- ---- the command
 
@@ -121,7 +138,10 @@ command_named name words =
     if bytes_eq name (codes "trace") then asked Trace (file_of (codes "trace") words)
     else (if bytes_eq name (codes "run") then asked Run (run_of words)
     else (if bytes_eq name (codes "check") then asked Check (file_of (codes "check") words)
-    else Err UnknownCommand))
+    else (if bytes_eq name (codes "gen") then asked Gen (gen_of words)
+    else (if bytes_eq name (codes "coverage") then asked Coverage (binding_of (codes "coverage") words)
+    else (if bytes_eq name (codes "calltree") then asked CallTree (binding_of (codes "calltree") words)
+    else Err UnknownCommand)))))
 
 -- what these words ask for, or why they are no command
 abbrev pub command_of : List (List ℕ) → Result Command WordFault
@@ -132,10 +152,14 @@ command_of (name ∷ words) = command_named name (name ∷ words)
 abbrev pub IsFuel : ℕ → Type 0
 IsFuel fuel = (1 ≤ fuel) × (fuel ≤ 16777216)
 
--- a fuel that was asked for is one that a context may have
-abbrev pub HasFuelInRange : Command → Type 0
-HasFuelInRange (Run words) = IfSome words.fuel IsFuel
-HasFuelInRange command = Unit {0}
+-- the numbers of a command are in their ranges: a fuel is one that a context may have, a binding's number is below the most
+-- bindings of a plan, and that of `gen` is below a million
+abbrev pub HasNumbersInRange : Command → Type 0
+HasNumbersInRange (Run words) = IfSome words.fuel IsFuel
+HasNumbersInRange (Gen number) = number ≤ 999999
+HasNumbersInRange (Coverage words) = (words.binding ≤ 4095) × IfSome words.fuel IsFuel
+HasNumbersInRange (CallTree words) = (words.binding ≤ 4095) × IfSome words.fuel IsFuel
+HasNumbersInRange command = Unit {0}
 
 -- ---- why words aren't read; memory may run out at any of them
 

@@ -1,7 +1,7 @@
 //! The commands of `clap`: which words each one takes.
 ghost use Rattle.std.specs.Prelude.{◌≡◌, IfOk, false, codes};
 ghost use Rattle.clap.specs.Words.{app_of, rule_of};
-ghost use Rattle.pd_words.specs.Words.{command, file_rule, flag_rule, fuel_rule, number_rule, file_app, run_app, gen_app};
+ghost use Rattle.pd_words.specs.Words.{command, file_rule, flag_rule, fuel_rule, number_rule, file_app, run_app, gen_app, binding_app};
 
 use clap::{Arg, ArgAction, Command, value_parser};
 use std::alloc::{AllocError, Global};
@@ -46,6 +46,17 @@ fn number<'a>(alloc: Global) -> Arg<'a>
         .value_parser(value_parser!(u32).range(0..=999_999))
 }
 
+// The number of a binding.
+fn binding<'a>(alloc: Global) -> Arg<'a>
+    ensures rule { rule_of result ≡ number_rule (codes "binding") 4095 }
+    ensures local { result.global ≡ false }
+{
+    Arg::new(alloc, "binding")
+        .required(true)
+        .action(ArgAction::Set)
+        .value_parser(value_parser!(u32).range(0..=4_095))
+}
+
 // A command of this name without a help option.
 fn command<'a>(alloc: Global, name: &'a str) -> Command<'a>
     ensures { app_of result ≡ command name.entry.now }
@@ -76,4 +87,14 @@ pub(crate) fn gen_command<'a>(alloc: Global) -> Result<Command<'a>, AllocError>
     ensures { IfOk result (λ c. app_of c ≡ gen_app) }
 {
     command(alloc, "gen").arg(number(alloc))
+}
+
+/// The command of this name on one binding of a plan.
+pub(crate) fn binding_command<'a>(alloc: Global, name: &'a str) -> Result<Command<'a>, AllocError>
+    ensures { IfOk result (λ c. app_of c ≡ binding_app name.entry.now) }
+{
+    command(alloc, name)
+        .arg(file(alloc))?
+        .arg(binding(alloc))?
+        .arg(fuel(alloc))
 }

@@ -7,6 +7,6 @@ mod fuel;
 mod matching;
 mod words;
 
-pub use asked::{Command, RunWords, WordFault};
+pub use asked::{BindingWords, Command, RunWords, WordFault};
 pub use fuel::with_fuel;
-pub use words::{read_gen, read_words};
+pub use words::read_words;

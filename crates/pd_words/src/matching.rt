@@ -1,7 +1,7 @@
 //! What a command of `clap` finds in words.
-ghost use Rattle.std.specs.Prelude.{◌≡◌, option_map, IfOk, IfErr, Some, true};
+ghost use Rattle.std.specs.Prelude.{◌≡◌, ◌≤◌, option_map, IfOk, IfErr, IfSome, Some, true};
 ghost use Rattle.clap.specs.Words.{app_of, found_of, rows_of, first_of, is_simple_and_free};
-ghost use Rattle.pd_words.specs.Words.{texts, matched, text_in, is_given, number_in, within, number_of, StopsBy};
+ghost use Rattle.pd_words.specs.Words.{texts, matched, text_in, is_given, number_in, within, number_of, number_up_to, StopsBy};
 
 use crate::asked::WordFault;
 use clap::error::ErrorKind;
@@ -66,7 +66,8 @@ fn number_in(text: &str) -> Option<u32>
 
 // The number, if it is one from `least` to `most`.
 fn within(number: u32, least: u32, most: u32) -> Option<u32>
-    ensures { result ≡ within least most number }
+    ensures number { result ≡ within least most number }
+    ensures within { IfSome result (λ n. (least ≤ n) × (n ≤ most)) }
 {
     if least <= number && number <= most {
         Some(number)
@@ -77,7 +78,8 @@ fn within(number: u32, least: u32, most: u32) -> Option<u32>
 
 /// The number of an argument, where it has one from `least` to `most`.
 pub(crate) fn number_of(matches: &ArgMatches, id: &str, least: u32, most: u32) -> Option<u32>
-    ensures { result ≡ number_of least most (first_of id.now (rows_of (found_of matches.now))) }
+    ensures number { result ≡ number_of least most (first_of id.now (rows_of (found_of matches.now))) }
+    ensures within { IfSome result (λ n. (least ≤ n) × (n ≤ most)) }
 {
     match first(matches, id) {
         None => None,
@@ -86,4 +88,12 @@ pub(crate) fn number_of(matches: &ArgMatches, id: &str, least: u32, most: u32) -
             Some(number) => within(number, least, most),
         },
     }
+}
+
+/// The number up to `most` of an argument that must be there: where the command takes the words, it has one.
+pub(crate) fn number_up_to(matches: &ArgMatches, id: &str, most: u32) -> u32
+    ensures number { result ≡ number_up_to most id.now (rows_of (found_of matches.now)) }
+    ensures within { result ≤ most }
+{
+    number_of(matches, id, 0, most).unwrap_or(0)
 }
