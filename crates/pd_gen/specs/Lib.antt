@@ -1,0 +1,3 @@
+-- Definitions, which public contracts cite.
+pub mod Workload
+pub mod Summing
