@@ -1,0 +1,4 @@
+pub mod Contexts
+pub mod ReadLemmas
+pub mod Records
+pub mod Texts

@@ -1,0 +1,6 @@
+-- Definitions, which public contracts cite.
+pub mod Results
+pub mod Suits
+pub mod Text
+-- For the proofs.
+pub mod Counting

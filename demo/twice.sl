@@ -1,0 +1,7 @@
+function f() {
+  return 1;
+}
+function main() {
+  f();
+  f();
+}
