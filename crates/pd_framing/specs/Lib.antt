@@ -1,0 +1,2 @@
+-- Definitions, which public contracts cite.
+pub mod Framing

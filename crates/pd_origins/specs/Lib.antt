@@ -1,0 +1,4 @@
+-- Definitions, which public contracts cite.
+pub mod Origins
+pub mod Ledger
+pub mod Laws
