@@ -1,0 +1,3 @@
+function up(a) {
+  if (a == 3) { println(a); }
+}
