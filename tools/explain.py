@@ -41,10 +41,14 @@ OF_PLANS = {
     "OutOfRange": "this, or its length, is out of range",
     "UnknownWord": "none of the words that may stand here",
     "UnknownMember": "this has a member that it can't have",
-    "NotBuilt": "this isn't served",
     "NoSuch": "the plan has none of this number",
     "NotAnObserver": "the binding of this number is no observer",
     "BadCondition": "this is no condition",
+}
+# What is wrong with a binding of the plan, by the command that asks for it.
+OF_BINDINGS = {
+    "coverage": "this is no observer",
+    "calltree": 'an observer of {"tags": ["Root"]} is wanted, attached before the run, that nothing disposes or disables',
 }
 # How deep a plan may nest, and how much of a line is shown before and after the place.
 DEEPEST = 127
@@ -219,6 +223,13 @@ def of_source(command, file, number, rule, at):
     return pointed(name, read(name), at, OF_SOURCES.get(rule, rule))
 
 
+def of_binding(command, file, number):
+    """Shows which binding of the plan isn't as the command needs."""
+    text = read(file)
+    it, missing = found_at(read_plan(text), f"/bindings/{number}")
+    return f"{file}: the plan has no binding {number}" if missing else pointed(file, text, it[0], OF_BINDINGS[command])
+
+
 def read(file):
     with open(os.fsencode(file), "rb") as it:
         return it.read()
@@ -228,12 +239,15 @@ def explained(message, words):
     """Returns what is to be shown after the message, or nothing."""
     of_plans = re.fullmatch(r"polydbg: plan (\w+) at (.*)\n", message, re.S)
     of_sources = re.fullmatch(r"polydbg: source (\d+) (\w+) at (\d+)\n", message)
+    of_bindings = re.fullmatch(r"polydbg: no observer (\d+)\n", message)
     unread = re.fullmatch(r"polydbg: cannot read (.*)\n", message, re.S)
     file = file_among(words)
     if of_plans:
         return of_plan(file, read(file), *of_plans.groups())
     if of_sources:
         return of_source(words[0], file, int(of_sources[1]), of_sources[2], int(of_sources[3]))
+    if of_bindings:
+        return of_binding(words[0], file, int(of_bindings[1]))
     if unread and words[0] != "trace" and unread[1] != file:
         return f"polydbg: the plan names this source; a name that doesn't begin with / is looked for from the current folder, {os.getcwd()}"
     return ""

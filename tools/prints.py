@@ -27,7 +27,7 @@ said=$(mktemp)
 '{program}' "$@" 2>"$said"
 status=$?
 cat "$said" >&2
-case "$status" in 2 | 3 | 4) python3 '{home}/tools/explain.py' "$said" "$@" >&2 ;; esac
+case "$status" in 2 | 3 | 4 | 8) python3 '{home}/tools/explain.py' "$said" "$@" >&2 ;; esac
 rm -f "$said"
 exit "$status"
 """

@@ -3,17 +3,17 @@ use Rattle.std.proofs.Common.{◌≡◌, ◌∙◌, ℕ, List, refl, ap, sym, su
 use Rattle.std.specs.Prelude.{◌⊎◌}
 use Rattle.pd_plan.specs.declared.plan.Plan.{Plan}
 use Rattle.pd_tree.specs.Program.{Program}
-use Rattle.pd_run.specs.declared.report.Report.{Report}
 use Rattle.pd_words.specs.declared.asked.Command.{Command}
-use Rattle.pd_words.specs.declared.asked.Command.TheVariants.{Trace, Run, Check}
+use Rattle.pd_words.specs.declared.asked.Command.TheVariants.{Trace, Run, Check, Gen, Coverage, CallTree}
 use Rattle.pd_words.specs.declared.asked.WordFault.{WordFault}
+use Rattle.pd_top.specs.declared.outcome.Unwritten.{Unwritten}
 use Rattle.pd_top.specs.declared.outcome.Unwritten.TheVariants as unwritten
 use Rattle.pd_top.specs.declared.outcome.Outcome.{Outcome}
-use Rattle.pd_top.specs.declared.outcome.Outcome.TheVariants.{Ran, Checked, Usage, Unreadable, TooLong, PlanRefused, SourceRefused, SinkFailed, Memory}
+use Rattle.pd_top.specs.declared.outcome.Outcome.TheVariants.{Ran, Checked, Generated, Covered, Treed, Usage, Unreadable, TooLong, PlanRefused, NoObserver, SourceRefused, SinkFailed, Memory}
 use Rattle.pd_words.specs.Words.{command_of}
 use Rattle.pd_top.specs.Files.{IsContent}
-use Rattle.pd_top.specs.Causes.{Cause, too_long, plan_refused, source_refused, accepted, IsCause}
-use Rattle.pd_top.specs.Answers.{Reading, files_read, Writing, IsTextOf, IsReason, Tells, IsAnswer, IsDecided}
+use Rattle.pd_top.specs.Causes.{Cause, too_long, plan_refused, no_observer, source_refused, accepted, IsCause}
+use Rattle.pd_top.specs.Answers.{Reading, files_read, Writing, IsTextOf, IsWhole, IsReason, Tells, IsAnswer, IsDecided}
 use Rattle.pd_top.specs.Stops.{StopsWords, StopsAccepting}
 use Rattle.pd_top.proofs.GivenLemmas.{cause_within}
 use Rattle.pd_top.proofs.CauseLemmas.{Agrees, one_cause}
@@ -37,6 +37,7 @@ pub accepting_reason : (reading : Reading) (command : Command) (outcome : Outcom
 accepting_reason reading command (Unreadable name) asked stops = (command, asked, stops.0, stops.1)
 accepting_reason reading command (TooLong name) asked stops = (command, asked, stops)
 accepting_reason reading command (PlanRefused refusal) asked stops = (command, asked, stops)
+accepting_reason reading command (NoObserver binding) asked stops = (command, asked, stops)
 accepting_reason reading command (SourceRefused refusal) asked stops = (command, asked, stops)
 accepting_reason reading command Memory asked stops = tt
 accepting_reason reading command outcome asked stops = absurd stops
@@ -44,6 +45,9 @@ accepting_reason reading command outcome asked stops = absurd stops
 pub tells_reason : (reading : Reading) (writing : Writing) (outcome : Outcome) → IsReason reading outcome → Tells reading writing outcome
 tells_reason reading writing (Ran report) reason = absurd reason
 tells_reason reading writing Checked reason = absurd reason
+tells_reason reading writing (Generated report summary) reason = absurd reason
+tells_reason reading writing (Covered report coverage) reason = absurd reason
+tells_reason reading writing (Treed report tree) reason = absurd reason
 tells_reason reading writing (SinkFailed answer) reason = absurd reason
 tells_reason reading writing outcome reason = reason
 
@@ -54,9 +58,8 @@ agreed : (command : Command) (x y : Cause) (outcome : Outcome) → Agrees x y �
 agreed command (too_long a) (too_long b) outcome agree answer = answer ∙ ap TooLong agree
 agreed command (plan_refused a) (plan_refused b) outcome agree answer = answer ∙ ap PlanRefused agree
 agreed command (source_refused a) (source_refused b) outcome agree answer = answer ∙ ap SourceRefused agree
-agreed (Trace file) (accepted p a) (accepted q b) outcome agree answer = answer
-agreed (Run words) (accepted p a) (accepted q b) outcome agree answer = answer
-agreed (Check file) (accepted p a) (accepted q b) outcome agree answer = answer
+agreed command (no_observer a) (no_observer b) outcome agree answer = answer ∙ ap (λ n. NoObserver n) agree
+agreed command (accepted p a) (accepted q b) outcome agree answer = answer
 agreed command x y outcome agree answer = absurd agree
 
 -- the answer of one cause is that of the other
@@ -70,25 +73,37 @@ decided_by reading outcome command other x y content asked cause answer tells al
     let agree : Agrees x y = one_cause content other x y (subst (λ h. IsCause (IsContent h) other x) tells first) (subst (λ h. IsCause (IsContent h) other y) tells also) in
     agreed other x y outcome agree (subst (λ c. IsAnswer c x outcome) same answer)
 
-ran_answer : (command : Command) (plan : Plan) (program : Program) (report : Report) (text : List ℕ)
-    → IsTextOf command plan program (unwritten.Ran report) text → IsAnswer command (accepted plan program) (Ran report)
-ran_answer (Trace file) plan program report text is = refl
-ran_answer (Run words) plan program report text is = refl
-ran_answer (Check file) plan program report text is = absurd is
+-- the answer that a text was made for, where the text is written
+abbrev written : Unwritten → Outcome
+written (unwritten.Ran report) = Ran report
+written unwritten.Checked = Checked
+written (unwritten.Generated report summary) = Generated report summary
+written (unwritten.Covered report coverage) = Covered report coverage
+written (unwritten.Treed report tree) = Treed report tree
 
-checked_answer : (command : Command) (plan : Plan) (program : Program) (text : List ℕ)
-    → IsTextOf command plan program unwritten.Checked text → IsAnswer command (accepted plan program) Checked
-checked_answer (Trace file) plan program text is = absurd is
-checked_answer (Run words) plan program text is = absurd is
-checked_answer (Check file) plan program text is = refl
+-- a command's text is made for the command's own answer
+own_answer : (command : Command) (plan : Plan) (program : Program) (answer : Unwritten) (text : List ℕ)
+    → IsTextOf command plan program answer text → IsAnswer command (accepted plan program) (written answer)
+own_answer (Trace file) plan program (unwritten.Ran report) text is = refl
+own_answer (Run words) plan program (unwritten.Ran report) text is = refl
+own_answer (Check file) plan program unwritten.Checked text is = refl
+own_answer (Gen number) plan program (unwritten.Generated report summary) text is = refl
+own_answer (Coverage words) plan program (unwritten.Covered report coverage) text is = refl
+own_answer (CallTree words) plan program (unwritten.Treed report tree) text is = refl
+own_answer command plan program answer text is = absurd is
+
+-- the answer whose text was written is that of the files' cause
+whole_decided : (reading : Reading) (writing : Writing) (answer : Unwritten) (text : List ℕ) → IsWhole reading answer text → IsDecided reading writing (written answer)
+whole_decided reading writing answer text whole = λ content command cause tells asked also read_well wrote_well.
+    inr (decided_by reading (written answer) whole.command command (accepted whole.plan whole.program) cause content whole.asked whole.accepts
+    (own_answer whole.command whole.plan whole.program answer text whole.text_is) tells asked also)
 
 pub decided : (reading : Reading) (writing : Writing) (outcome : Outcome) → Tells reading writing outcome → IsDecided reading writing outcome
-decided reading writing (Ran report) (text, whole, written) = λ content command cause tells asked also read_well wrote_well.
-    inr (decided_by reading (Ran report) whole.command command (accepted whole.plan whole.program) cause content whole.asked whole.accepts
-    (ran_answer whole.command whole.plan whole.program report text whole.text_is) tells asked also)
-decided reading writing Checked (line, whole, written) = λ content command cause tells asked also read_well wrote_well.
-    inr (decided_by reading Checked whole.command command (accepted whole.plan whole.program) cause content whole.asked whole.accepts
-    (checked_answer whole.command whole.plan whole.program line whole.text_is) tells asked also)
+decided reading writing (Ran report) (text, whole, is) = whole_decided reading writing (unwritten.Ran report) text whole
+decided reading writing Checked (text, whole, is) = whole_decided reading writing unwritten.Checked text whole
+decided reading writing (Generated report summary) (text, whole, is) = whole_decided reading writing (unwritten.Generated report summary) text whole
+decided reading writing (Covered report coverage) (text, whole, is) = whole_decided reading writing (unwritten.Covered report coverage) text whole
+decided reading writing (Treed report tree) (text, whole, is) = whole_decided reading writing (unwritten.Treed report tree) text whole
 decided reading writing (Usage fault) none = λ content command cause tells asked also read_well wrote_well.
     let both : ◌≡◌ {A = Result Command WordFault} (Err fault) (Ok command) = sym none ∙ asked in cc
 decided reading writing (Unreadable name) (first, asked_first, reached, fault) = λ content command cause tells asked also read_well wrote_well.
@@ -97,6 +112,8 @@ decided reading writing (TooLong name) (first, asked_first, due) = λ content co
     inr (decided_by reading (TooLong name) first command (too_long name) cause content asked_first due refl tells asked also)
 decided reading writing (PlanRefused refusal) (first, asked_first, due) = λ content command cause tells asked also read_well wrote_well.
     inr (decided_by reading (PlanRefused refusal) first command (plan_refused refusal) cause content asked_first due refl tells asked also)
+decided reading writing (NoObserver binding) (first, asked_first, due) = λ content command cause tells asked also read_well wrote_well.
+    inr (decided_by reading (NoObserver binding) first command (no_observer binding) cause content asked_first due refl tells asked also)
 decided reading writing (SourceRefused refusal) (first, asked_first, due) = λ content command cause tells asked also read_well wrote_well.
     inr (decided_by reading (SourceRefused refusal) first command (source_refused refusal) cause content asked_first due refl tells asked also)
 decided reading writing (SinkFailed answer) (text, whole, risen, written) = λ content command cause tells asked also read_well wrote_well.

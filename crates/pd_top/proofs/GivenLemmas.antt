@@ -1,5 +1,5 @@
 -- What was given in a part of a call was given in the call.
-use Rattle.std.proofs.Common.{◌≡◌, ◌∙◌, ℕ, List, [], ◌∷◌, ◌++◌, refl, ap, sym, subst, arith, append_assoc, inl, inr, Ok, Err}
+use Rattle.std.proofs.Common.{◌≡◌, ◌∙◌, ℕ, List, [], ◌∷◌, ◌++◌, refl, ap, sym, subst, arith, append_assoc, inl, inr, Option, None, Some, Ok, Err}
 use Rattle.std.proofs.lemmas.List.{append-nil}
 use Rattle.std.proofs.lemmas.List.Elements.{Contains-append_left, Contains-append_right}
 use Rattle.pd_outside.specs.Files.{Given}
@@ -8,9 +8,9 @@ use Rattle.pd_plan.specs.declared.plan.SourceSpec.{SourceSpec}
 use Rattle.pd_plan.specs.declared.plan.Plan.{Plan}
 use Rattle.pd_plan_json.specs.Reading.{Read}
 use Rattle.pd_words.specs.declared.asked.Command.{Command}
-use Rattle.pd_words.specs.declared.asked.Command.TheVariants.{Trace, Run, Check}
+use Rattle.pd_words.specs.declared.asked.Command.TheVariants.{Trace, Run, Check, Gen, Coverage, CallTree}
 use Rattle.pd_top.specs.Files.{Files, Held, IsContent, IsGrown, IsAdded, IsRead, IsShort, IsLong, AreSources, IsReachedAmong}
-use Rattle.pd_top.specs.Causes.{IsPlanRead, IsPlanOf, IsReached, Cause, too_long, plan_refused, source_refused, accepted, IsCause}
+use Rattle.pd_top.specs.Causes.{IsPlanRead, IsPlanIn, IsPlanOf, IsFitPlan, made_sources, read_among, AreGiven, IsReached, Cause, too_long, plan_refused, no_observer, source_refused, accepted, IsCause}
 
 -- ---- the answers of a library
 
@@ -70,19 +70,34 @@ module _ (P Q : Files) (within : Within P Q) where
   pub plan_read_within : (file : List ℕ) (read : Read Plan) → IsPlanRead P file read → IsPlanRead Q file read
   plan_read_within file read x = record { bytes = x.bytes; short = short_within file x.bytes x.short; read_is = x.read_is }
 
+  plan_in_within : (file : List ℕ) (fuel : Option ℕ) (plan : Plan) → IsPlanIn P file fuel plan → IsPlanIn Q file fuel plan
+  plan_in_within file fuel plan is = (is.0, plan_read_within file (Ok is.0) is.1, is.2)
+
   pub plan_within : (command : Command) (plan : Plan) → IsPlanOf P command plan → IsPlanOf Q command plan
   plan_within (Trace file) plan is = is
-  plan_within (Run words) plan is = (is.0, plan_read_within words.plan (Ok is.0) is.1, is.2)
-  plan_within (Check file) plan is = plan_read_within file (Ok plan) is
+  plan_within (Run words) plan is = plan_in_within words.plan words.fuel plan is
+  plan_within (Check file) plan is = plan_in_within file None plan is
+  plan_within (Gen number) plan is = is
+  plan_within (Coverage words) plan is = plan_in_within words.plan words.fuel plan is
+  plan_within (CallTree words) plan is = plan_in_within words.plan words.fuel plan is
+
+  pub fit_within : (command : Command) (plan : Plan) → IsFitPlan P command plan → IsFitPlan Q command plan
+  fit_within command plan is = (plan_within command plan is.0, is.1)
+
+  pub given_within : (made : Option (List Written)) (ss : List SourceSpec) (ws : List Written) → AreGiven P made ss ws → AreGiven Q made ss ws
+  given_within None ss ws are = sources_within ss ws are
+  given_within (Some sources) ss ws are = are
 
   pub reached_within : (command : Command) (file : List ℕ) → IsReached P command file → IsReached Q command file
   reached_within command file (inl is) = inl is
-  reached_within command file (inr (plan, is, among)) = inr (plan, plan_within command plan is, among_within plan.sources file among)
+  reached_within command file (inr (plan, is, among)) =
+      inr (plan, fit_within command plan is, among_within (read_among (made_sources command) plan.sources) file among)
 
   pub cause_within : (command : Command) (cause : Cause) → IsCause P command cause → IsCause Q command cause
   cause_within command (too_long file) is = (reached_within command file is.0, long_within file is.1)
   cause_within command (plan_refused refusal) is = (is.0, is.1, plan_read_within is.0 (Err refusal) is.2)
+  cause_within command (no_observer binding) is = (is.0, plan_within command is.0 is.1, is.2)
   cause_within command (source_refused refusal) is =
-      (is.0, is.1, plan_within command is.0 is.2, sources_within is.0.sources is.1 is.3, is.4)
+      (is.0, is.1, fit_within command is.0 is.2, given_within (made_sources command) is.0.sources is.1 is.3, is.4)
   cause_within command (accepted plan program) is =
-      (is.0, plan_within command plan is.1, sources_within plan.sources is.0 is.2, is.3, is.4)
+      (is.0, fit_within command plan is.1, given_within (made_sources command) plan.sources is.0 is.2, is.3, is.4)

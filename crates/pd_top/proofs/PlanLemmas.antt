@@ -1,6 +1,6 @@
 -- The plans that are run are sound: that of `trace`, and one with another fuel.
 use Rattle.std.proofs.Common.{◌≡◌, ◌<◌, ◌≤◌, ℕ, suc, Option, None, Some, map, List, [], ◌∷◌, length, refl, ap, subst, sym, arith}
-use Rattle.std.specs.Prelude.{IfSome}
+use Rattle.std.specs.Prelude.{IfSome, Bool, true, false, if◌then◌else◌}
 use Rattle.std.specs.List.{AllByRecursion}
 use Rattle.pd_plan.specs.declared.plan.Plan.{Plan}
 use Rattle.pd_plan.specs.declared.plan.ContextSpec.{ContextSpec}
@@ -75,3 +75,10 @@ fuel_sound plan (Some fuel) is sound = record {
     sessions = sound.refers.sessions;
   };
 }
+
+-- ---- the binding that a command asks for
+
+-- where it isn't told, it fits
+pub binding_fits : (fits : Bool) (binding : ℕ) → ◌≡◌ {A = Option ℕ} (if fits then None else Some binding) None → fits ≡ true
+binding_fits true binding none = refl
+binding_fits false binding none = cc

@@ -1,5 +1,7 @@
 -- Why a command has no plan and sources, from what stops its steps.
-use Rattle.std.proofs.Common.{◌≡◌, ◌+◌, ◌<◌, ◌≤◌, ◌∙◌, ℕ, List, take, length, get_or, ap, sym, subst, arith, inl, inr, Option, Some}
+use Rattle.std.proofs.Common.{◌≡◌, ◌+◌, ◌<◌, ◌≤◌, ◌∙◌, ℕ, List, take, length, get_or, ap, sym, subst, arith, inl, inr, Option, None, Some, Result}
+use Rattle.std.specs.Prelude.{IfErr}
+use Rattle.std.proofs.lemmas.Result.{IfErr-weaker}
 use Rattle.std.specs.List.{AllByRecursion}
 use Rattle.pd_sections.specs.declared.Stop.{Stop}
 use Rattle.pd_sections.specs.declared.Stop.TheVariants as loading
@@ -10,11 +12,11 @@ use Rattle.pd_load.specs.declared.refusal.LoadRefusal.{LoadRefusal}
 use Rattle.pd_load.specs.Tables.{IsText}
 use Rattle.pd_words.specs.declared.asked.Command.{Command}
 use Rattle.pd_top.specs.declared.outcome.Outcome.{Outcome}
-use Rattle.pd_top.specs.declared.outcome.Outcome.TheVariants.{Unreadable, TooLong, PlanRefused, Memory}
-use Rattle.pd_top.specs.Files.{Files, IsFault, IsLong, AreSources}
-use Rattle.pd_top.specs.Causes.{plan_file, IsPlanOf, IsNotText}
-use Rattle.pd_top.specs.Stops.{StopsFetch, StopsPlan, StopsSources, StopsSource, StopsTexts, StopsAccepting}
-use Rattle.pd_top.proofs.GivenLemmas.{Within, long_within, among_within}
+use Rattle.pd_top.specs.declared.outcome.Outcome.TheVariants.{Unreadable, TooLong, PlanRefused, SourceRefused, Memory}
+use Rattle.pd_top.specs.Files.{Files, IsFault, IsLong, AreSources, IsReachedAmong}
+use Rattle.pd_top.specs.Causes.{plan_file, IsFitPlan, made_sources, read_among, AreGiven, IsNotText}
+use Rattle.pd_top.specs.Stops.{StopsFetch, StopsPlan, StopsSources, StopsGiving, StopsSource, StopsTexts, StopsAccepting}
+use Rattle.pd_top.proofs.GivenLemmas.{Within, long_within, sources_within, among_within}
 use Rattle.pd_top.proofs.FileLemmas.{reached_next}
 use Rattle.pd_top.proofs.SourceLemmas.{not_text_at}
 
@@ -43,13 +45,15 @@ fetch_within P Q within file before after last (TooLong name) stops = (stops.0, 
 fetch_within P Q within file before after last Memory stops = tt
 fetch_within P Q within file before after last outcome stops = absurd stops
 
--- what stops the fetch of the sources, which is a part of a call
-pub sources_stop_within : (P Q : Files) → Within P Q → (ss : List SourceSpec) (before after : ℕ) (last : Option (List ℕ)) (outcome : Outcome)
-    → StopsSources P ss before after last outcome → StopsSources Q ss before after last outcome
-sources_stop_within P Q within ss before after last (Unreadable name) stops = (among_within P Q within ss name stops.0, stops.1)
-sources_stop_within P Q within ss before after last (TooLong name) stops = (among_within P Q within ss name stops.0, long_within P Q within name stops.1)
-sources_stop_within P Q within ss before after last Memory stops = tt
-sources_stop_within P Q within ss before after last outcome stops = absurd stops
+-- what stops the giving of the sources, which is a part of a call
+pub giving_within : (P Q : Files) → Within P Q → (made : Option (List Written)) (ss : List SourceSpec) (before after : ℕ) (last : Option (List ℕ)) (outcome : Outcome)
+    → StopsGiving P made ss before after last outcome → StopsGiving Q made ss before after last outcome
+giving_within P Q within (Some ws) ss before after last outcome stops = absurd stops
+giving_within P Q within None ss before after last (Unreadable name) stops = (among_within P Q within ss name stops.0, stops.1)
+giving_within P Q within None ss before after last (TooLong name) stops = (among_within P Q within ss name stops.0, long_within P Q within name stops.1)
+giving_within P Q within None ss before after last (SourceRefused refusal) stops = (stops.0, sources_within P Q within ss stops.0 stops.1, stops.2)
+giving_within P Q within None ss before after last Memory stops = tt
+giving_within P Q within None ss before after last outcome stops = absurd stops
 
 -- the plan's file is the first of a command
 pub plan_stops : (files : Files) (command : Command) (file : List ℕ) (before after : ℕ) (last : Option (List ℕ)) (outcome : Outcome) → plan_file command ≡ Some file
@@ -61,14 +65,26 @@ plan_stops files command file before after last (PlanRefused refusal) is stops =
 plan_stops files command file before after last Memory is stops = tt
 plan_stops files command file before after last outcome is stops = absurd stops
 
+-- the same of a plan that is read, or of what stops its reading
+pub planned_stops : {A : Type 0} (files : Files) (command : Command) (file name : List ℕ) (before after : ℕ) (last : Option (List ℕ)) (result : Result A Outcome)
+    → plan_file command ≡ Some file → name ≡ file → IfErr result (StopsPlan files name before after last) → IfErr result (StopsAccepting files command before after last)
+planned_stops files command file name before after last result is same stopped =
+    IfErr-weaker result (StopsPlan files name before after last) (StopsAccepting files command before after last)
+    (λ outcome stops. plan_stops files command name before after last outcome (is ∙ ap Some (sym same)) stops) stopped
+
 -- the files of the sources come behind the plan
-pub sources_stop : (files : Files) (command : Command) (plan : Plan) (before mid after : ℕ) (last : Option (List ℕ)) (outcome : Outcome) → before ≤ mid
-    → IsPlanOf files command plan → StopsSources files plan.sources mid after last outcome → StopsAccepting files command before after last outcome
-sources_stop files command plan before mid after last (Unreadable name) earlier is stops =
-    (inr (plan, is, stops.0), fault_since before mid after last name earlier stops.1)
-sources_stop files command plan before mid after last (TooLong name) earlier is stops = (inr (plan, is, stops.0), stops.1)
-sources_stop files command plan before mid after last Memory earlier is stops = tt
-sources_stop files command plan before mid after last outcome earlier is stops = absurd stops
+pub giving_stops : (files : Files) (command : Command) (plan : Plan) (made : Option (List Written)) (before mid after : ℕ) (last : Option (List ℕ)) (outcome : Outcome)
+    → before ≤ mid → IsFitPlan files command plan → made ≡ made_sources command → StopsGiving files made plan.sources mid after last outcome
+    → StopsAccepting files command before after last outcome
+giving_stops files command plan (Some ws) before mid after last outcome earlier is same stops = absurd stops
+giving_stops files command plan None before mid after last (Unreadable name) earlier is same stops =
+    (inr (plan, is, subst (λ made. IsReachedAmong files (read_among made plan.sources) name) same stops.0), fault_since before mid after last name earlier stops.1)
+giving_stops files command plan None before mid after last (TooLong name) earlier is same stops =
+    (inr (plan, is, subst (λ made. IsReachedAmong files (read_among made plan.sources) name) same stops.0), stops.1)
+giving_stops files command plan None before mid after last (SourceRefused refusal) earlier is same stops =
+    (plan, stops.0, is, subst (λ made. AreGiven files made plan.sources stops.0) same stops.1, inl stops.2)
+giving_stops files command plan None before mid after last Memory earlier is same stops = tt
+giving_stops files command plan None before mid after last outcome earlier is same stops = absurd stops
 
 -- the source behind those that are UTF-8 isn't made
 pub source_stops : (all ws : List Written) (w : Written) (stop : Stop LoadRefusal) → ws ≡ take (length ws) all → length ws < length all

@@ -21,17 +21,22 @@ use Rattle.pd_run.specs.Run.{IsRun}
 use Rattle.pd_report.specs.Lines.{joined}
 use Rattle.pd_report.specs.Transcript.{text_of, check_line}
 use Rattle.pd_report.specs.Json.{json_of}
+use Rattle.pd_gen.specs.Summing.{summary_of, summary_text}
+use Rattle.pd_coverage.specs.Report.{IsCoverage}
+use Rattle.pd_coverage.specs.Text.{coverage_text}
+use Rattle.pd_calltree.specs.Results.{AreTrees, AreSummedIn}
+use Rattle.pd_calltree.specs.Text.{calltree_text}
 use Rattle.pd_words.specs.declared.asked.Command.{Command}
-use Rattle.pd_words.specs.declared.asked.Command.TheVariants.{Trace, Run, Check}
+use Rattle.pd_words.specs.declared.asked.Command.TheVariants.{Trace, Run, Check, Gen, Coverage, CallTree}
 use Rattle.pd_words.specs.declared.asked.WordFault.{WordFault}
 use Rattle.pd_words.specs.declared.asked.WordFault.TheVariants.{NoCommand, UnknownCommand, Refused as WordsRefused}
 use Rattle.pd_words.specs.Words.{command_of}
 use Rattle.pd_top.specs.declared.outcome.Unwritten.{Unwritten}
 use Rattle.pd_top.specs.declared.outcome.Unwritten.TheVariants as unwritten
 use Rattle.pd_top.specs.declared.outcome.Outcome.{Outcome}
-use Rattle.pd_top.specs.declared.outcome.Outcome.TheVariants.{Ran, Checked, Usage, Unreadable, TooLong, PlanRefused, SourceRefused, SinkFailed, Memory}
+use Rattle.pd_top.specs.declared.outcome.Outcome.TheVariants.{Ran, Checked, Generated, Covered, Treed, Usage, Unreadable, TooLong, PlanRefused, NoObserver, SourceRefused, SinkFailed, Memory}
 use Rattle.pd_top.specs.Files.{Files, Held, IsContent, IsRead, IsFault}
-use Rattle.pd_top.specs.Causes.{Cause, too_long, plan_refused, source_refused, accepted, IsReached, IsCause}
+use Rattle.pd_top.specs.Causes.{Cause, too_long, plan_refused, no_observer, source_refused, accepted, IsReached, IsCause}
 
 -- ---- what was read and written
 
@@ -109,13 +114,38 @@ IsTranscript json merged plan program (unwritten.Ran report) text =
     IsRun plan program report × (text ≡ transcript json merged plan program report)
 IsTranscript json merged plan program _ text = ⊥
 
--- what the command answers for this plan and program, with its whole text: `trace` and `run` a report of the plan's run, `check` the
--- line that counts
+-- a report of the plan's run, with the summary of the workload of this number, which takes its numbers from the report, and the text
+-- of the summary
+abbrev pub IsSummed : ℕ → Plan → Program → Unwritten → List ℕ → Type 0
+IsSummed number plan program (unwritten.Generated report summary) text =
+    IsRun plan program report × (summary ≡ summary_of number report) × (text ≡ summary_text summary)
+IsSummed number plan program _ text = ⊥
+
+-- a report of the plan's run, with what the binding covers in it, and the text of that: of a binding that stays attached and enabled
+-- all along just the nodes are hit that the program's meaning enters
+abbrev pub IsCovered : ℕ → Plan → Program → Unwritten → List ℕ → Type 0
+IsCovered binding plan program (unwritten.Covered report coverage) text =
+    IsRun plan program report × IsCoverage plan program report binding coverage × (text ≡ coverage_text plan program coverage)
+IsCovered binding plan program _ text = ⊥
+
+-- a report of the plan's run, with its paths of calls, and the text of these: they are counted over the events of each context's
+-- meaning, and their sums are the numbers of its events and of the functions and procedures that it enters
+abbrev pub IsTreed : Plan → Program → Unwritten → List ℕ → Type 0
+IsTreed plan program (unwritten.Treed report tree) text =
+    IsRun plan program report × AreTrees plan program 0 report.contexts tree.contexts
+    × AreSummedIn plan program 0 report.contexts tree.contexts × (text ≡ calltree_text program report tree)
+IsTreed plan program _ text = ⊥
+
+-- what the command answers for this plan and program, with its whole text: `check` the line that counts, all others a report of the
+-- plan's run and what they make of it
 abbrev pub IsTextOf : Command → Plan → Program → Unwritten → List ℕ → Type 0
 IsTextOf (Trace file) plan program answer text = IsTranscript false false plan program answer text
 IsTextOf (Run words) plan program answer text = IsTranscript words.json words.merged plan program answer text
 IsTextOf (Check file) plan program unwritten.Checked text = text ≡ check_line plan program
 IsTextOf (Check file) plan program _ text = ⊥
+IsTextOf (Gen number) plan program answer text = IsSummed number plan program answer text
+IsTextOf (Coverage words) plan program answer text = IsCovered words.binding plan program answer text
+IsTextOf (CallTree words) plan program answer text = IsTreed plan program answer text
 
 -- the words are a command whose plan and sources are accepted, and this is its answer with its whole text
 pub record IsWhole (reading : Reading) (answer : Unwritten) (text : List ℕ) : Type 0 where
@@ -140,6 +170,7 @@ IsReason reading (Unreadable name) =
     × IsFault reading.before reading.after reading.last name
 IsReason reading (TooLong name) = IsDueTo reading (too_long name)
 IsReason reading (PlanRefused refusal) = IsDueTo reading (plan_refused refusal)
+IsReason reading (NoObserver binding) = IsDueTo reading (no_observer binding)
 IsReason reading (SourceRefused refusal) = IsDueTo reading (source_refused refusal)
 IsReason reading Memory = Unit {0}
 IsReason reading _ = ⊥
@@ -148,6 +179,11 @@ IsReason reading _ = ⊥
 abbrev pub Tells : Reading → Writing → Outcome → Type 0
 Tells reading writing (Ran report) = (text : List ℕ) × IsWhole reading (unwritten.Ran report) text × IsWritten writing text
 Tells reading writing Checked = (line : List ℕ) × IsWhole reading unwritten.Checked line × IsWritten writing line
+Tells reading writing (Generated report summary) =
+    (text : List ℕ) × IsWhole reading (unwritten.Generated report summary) text × IsWritten writing text
+Tells reading writing (Covered report coverage) =
+    (text : List ℕ) × IsWhole reading (unwritten.Covered report coverage) text × IsWritten writing text
+Tells reading writing (Treed report tree) = (text : List ℕ) × IsWhole reading (unwritten.Treed report tree) text × IsWritten writing text
 Tells reading writing (SinkFailed answer) =
     (text : List ℕ) × IsWhole reading answer text × (writing.before < writing.after) × IsWrittenInPart writing text
 Tells reading writing outcome = IsReason reading outcome
@@ -156,23 +192,31 @@ Tells reading writing outcome = IsReason reading outcome
 abbrev pub is_unwritten : Outcome → Bool
 is_unwritten (Ran report) = false
 is_unwritten Checked = false
+is_unwritten (Generated report summary) = false
+is_unwritten (Covered report coverage) = false
+is_unwritten (Treed report tree) = false
 is_unwritten (SinkFailed answer) = false
 is_unwritten _ = true
 
 -- ---- which answer is given
 
--- whether the answer is `Ran`
-abbrev pub is_ran : Outcome → Bool
-is_ran (Ran report) = true
-is_ran _ = false
+-- whether the answer is the command's own, with what it makes of a plan and its program
+abbrev pub is_own : Command → Outcome → Bool
+is_own (Trace file) (Ran report) = true
+is_own (Run words) (Ran report) = true
+is_own (Check file) Checked = true
+is_own (Gen number) (Generated report summary) = true
+is_own (Coverage words) (Covered report coverage) = true
+is_own (CallTree words) (Treed report tree) = true
+is_own _ _ = false
 
 -- what a command answers for the cause that its files have
 abbrev pub IsAnswer : Command → Cause → Outcome → Type 0
 IsAnswer command (too_long file) outcome = outcome ≡ TooLong file
 IsAnswer command (plan_refused refusal) outcome = outcome ≡ PlanRefused refusal
+IsAnswer command (no_observer binding) outcome = outcome ≡ NoObserver binding
 IsAnswer command (source_refused refusal) outcome = outcome ≡ SourceRefused refusal
-IsAnswer (Check file) (accepted plan program) outcome = outcome ≡ Checked
-IsAnswer command (accepted plan program) outcome = is_ran outcome ≡ true
+IsAnswer command (accepted plan program) outcome = is_own command outcome ≡ true
 
 -- where the library tells what it holds and no call fails, the answer is that of the files' cause, or `Memory`
 abbrev pub IsDecided : Reading → Writing → Outcome → Type 0
@@ -197,6 +241,9 @@ report_status report = if list_all (λ context. is_done context.«end») report.
 abbrev pub status_of : Outcome → ℕ
 status_of (Ran report) = report_status report
 status_of Checked = 0
+status_of (Generated report summary) = 0
+status_of (Covered report coverage) = 0
+status_of (Treed report tree) = 0
 status_of (Usage fault) = 1
 status_of (Unreadable name) = 2
 status_of (TooLong name) = 2
@@ -204,6 +251,7 @@ status_of (PlanRefused refusal) = 3
 status_of (SourceRefused refusal) = 4
 status_of (SinkFailed answer) = 5
 status_of Memory = 6
+status_of (NoObserver binding) = 8
 
 -- ---- the line for standard error, without its end; none where the text was written
 
@@ -266,14 +314,18 @@ abbrev pub refusal_message : LoadRefusal → List ℕ
 refusal_message refusal = joined (
     codes "polydbg: source " ∷ decimal refusal.source ∷ codes " " ∷ cause_name refusal.cause ∷ codes " at " ∷ decimal (cause_place refusal.cause) ∷ [])
 
--- what is told on standard error; nothing for `Ran` and `Checked`, whose text was written
+-- what is told on standard error; nothing where a text was written whole
 abbrev pub message_of : Outcome → List ℕ
 message_of (Ran report) = []
 message_of Checked = []
+message_of (Generated report summary) = []
+message_of (Covered report coverage) = []
+message_of (Treed report tree) = []
 message_of (Usage fault) = usage_message fault
 message_of (Unreadable name) = joined (codes "polydbg: cannot read " ∷ name ∷ [])
 message_of (TooLong name) = joined (codes "polydbg: too long " ∷ name ∷ [])
 message_of (PlanRefused refusal) = plan_message refusal
+message_of (NoObserver binding) = joined (codes "polydbg: no observer " ∷ decimal binding ∷ [])
 message_of (SourceRefused refusal) = refusal_message refusal
 message_of (SinkFailed answer) = codes "polydbg: cannot write"
 message_of Memory = codes "polydbg: out of memory"

@@ -10,5 +10,5 @@ mod top;
 
 pub use outcome::{Outcome, Unwritten};
 pub use pd_load::{LoadCause, LoadRefusal};
-pub use pd_words::{Command, RunWords, WordFault};
+pub use pd_words::{BindingWords, Command, RunWords, WordFault};
 pub use top::run;

@@ -2,6 +2,9 @@
 ghost use Rattle.std.specs.Prelude.{◌≡◌, ◌++◌, IfOk, OnOk, string_bytes};
 ghost use Rattle.pd_top.specs.Answers.{is_done, report_status, usage_message, plan_rule_name, rule_name, cause_name, cause_place, refusal_message};
 
+use pd_calltree::CallTree;
+use pd_coverage::Coverage;
+use pd_gen::Summary;
 use pd_load::{LoadCause, LoadRefusal};
 use pd_plan::{PlanRefusal, PlanRule};
 use pd_report::Report;
@@ -17,6 +20,12 @@ pub enum Unwritten {
     Ran(Report),
     /// A plan and its sources were accepted.
     Checked,
+    /// The workload of a number ran, with this report and this summary.
+    Generated(Report, Summary),
+    /// A plan ran, with this report, in which an observer covers this.
+    Covered(Report, Coverage),
+    /// A plan ran, with this report, which has these paths of calls.
+    Treed(Report, CallTree),
 }
 
 /// What became of a command. docs/FORMATS.md has the status and the message of each.
@@ -26,6 +35,12 @@ pub enum Outcome {
     Ran(Report),
     /// A plan and its sources are accepted, and the line was written whole.
     Checked,
+    /// The workload of a number ran, with this report, and its summary was written whole.
+    Generated(Report, Summary),
+    /// A plan ran, with this report, and what an observer covers in it was written whole.
+    Covered(Report, Coverage),
+    /// A plan ran, with this report, and its paths of calls were written whole.
+    Treed(Report, CallTree),
     /// The words are no command.
     Usage(WordFault),
     /// The file of this name couldn't be read.
@@ -34,6 +49,9 @@ pub enum Outcome {
     TooLong(Text),
     /// The plan's file is no plan.
     PlanRefused(PlanRefusal),
+    /// The binding of this number isn't one as the command needs: for `coverage` an observer of the plan, for `calltree` an
+    /// observer of all functions and procedures that is attached before the run and that nothing disposes or disables.
+    NoObserver { binding: u32 },
     /// A source, an export or an entry of the plan is refused.
     SourceRefused(LoadRefusal),
     /// A write failed, so that this answer's text wasn't written whole.
@@ -155,29 +173,38 @@ impl Outcome {
 
     /// The status with which the process ends: 0, or 7 where a context ended otherwise than done; 1 for words that are
     /// no command, 2 for a file that is unreadable or too long, 3 for a refused plan, 4 for a refused source, 5 for a
-    /// failed write, 6 where memory ran out.
+    /// failed write, 6 where memory ran out, 8 for a binding that isn't as the command needs. What is made of a report has 0
+    /// whatever the ends of its contexts.
     pub fn status(&self) -> u8
         ensures { result ≡ status_of self.now }
     {
         match self {
             Outcome::Ran(report) => report_status(report),
-            Outcome::Checked => 0,
+            Outcome::Checked
+            | Outcome::Generated(_, _)
+            | Outcome::Covered(_, _)
+            | Outcome::Treed(_, _) => 0,
             Outcome::Usage(_) => 1,
             Outcome::Unreadable(_) | Outcome::TooLong(_) => 2,
             Outcome::PlanRefused(_) => 3,
             Outcome::SourceRefused(_) => 4,
             Outcome::SinkFailed(_) => 5,
             Outcome::Memory => 6,
+            Outcome::NoObserver { .. } => 8,
         }
     }
 
-    /// What is told on standard error, one line without its end; empty for `Ran` and `Checked`.
+    /// What is told on standard error, one line without its end; empty where a text was written whole.
     pub fn message(&self, alloc: Global) -> Result<Text, AllocError>
         ensures { IfOk result (λ message. message ≡ message_of self.now) }
     {
         let mut message = String::new(alloc);
         match self {
-            Outcome::Ran(_) | Outcome::Checked => {}
+            Outcome::Ran(_)
+            | Outcome::Checked
+            | Outcome::Generated(_, _)
+            | Outcome::Covered(_, _)
+            | Outcome::Treed(_, _) => {}
             Outcome::Usage(fault) => message.push_str(usage_message(*fault))?,
             Outcome::Unreadable(name) => {
                 write!(message, "polydbg: cannot read {}", name.as_str())?
@@ -187,6 +214,7 @@ impl Outcome {
                 let name = plan_rule_name(*rule);
                 write!(message, "polydbg: plan {name} at {}", path.as_str())?
             }
+            Outcome::NoObserver { binding } => write!(message, "polydbg: no observer {binding}")?,
             Outcome::SourceRefused(refusal) => push_refusal(&mut message, *refusal)?,
             Outcome::SinkFailed(_) => message.push_str("polydbg: cannot write")?,
             Outcome::Memory => message.push_str("polydbg: out of memory")?,

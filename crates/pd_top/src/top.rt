@@ -1,15 +1,22 @@
 //! The top call.
-ghost use Rattle.std.specs.Prelude.{◌≡◌, ◌≤◌, ◌<◌, ◌⊎◌, ℕ, true, false, Err, length, Ok, IfOk, IfErr, OnOk, OnErr};
+ghost use Rattle.std.specs.Prelude.{◌≡◌, ◌≤◌, ◌<◌, ◌⊎◌, ℕ, true, false, Err, length, None, Ok, IfOk, IfErr, OnOk, OnErr};
 ghost use Rattle.pd_plan.specs.Sound.{IsSound};
 ghost use Rattle.pd_run.specs.Run.{IsRun};
 ghost use Rattle.pd_words.specs.declared.asked.WordFault.{WordFault};
-ghost use Rattle.pd_words.specs.Words.{texts, command_of, HasFuelInRange};
+ghost use Rattle.pd_nesting.specs.Nesting.{AreRooted};
+ghost use Rattle.pd_coverage.specs.Report.{watches};
+ghost use Rattle.pd_calltree.specs.Suits.{is_for_tree};
+ghost use Rattle.pd_words.specs.Words.{texts, command_of, HasNumbersInRange};
 ghost use Rattle.pd_top.specs.Files.{IsGrown};
+ghost use Rattle.pd_top.specs.Causes.{unfit_binding};
 ghost use Rattle.pd_top.specs.Stops.{StopsWords};
-ghost use Rattle.pd_top.specs.Answers.{Reading, reading_of, writing_of, IsWritten, IsWrittenInPart, transcript, IsTranscript, IsTextOf, IsWhole, IsReason, Tells, IsDecided, is_unwritten};
+ghost use Rattle.pd_top.specs.Answers.{Reading, reading_of, writing_of, IsWritten, IsWrittenInPart, transcript, IsTranscript, IsSummed, IsCovered, IsTreed, IsTextOf, IsWhole, IsReason, Tells, IsDecided, is_unwritten};
 
 use crate::accepting::{Accepted, accept};
 use crate::outcome::{Outcome, Unwritten};
+use pd_calltree::{calltree_text, tree};
+use pd_coverage::{cover, coverage_text};
+use pd_gen::{summary, summary_text};
 use pd_host::run_plan;
 use pd_outside::{Failed, Gate, Library, Sink};
 use pd_report::{Report, check_line, json_of, text_of};
@@ -85,6 +92,74 @@ fn ran<R: Threads + Sync, G: Gate>(
     })
 }
 
+// The report of a workload's run, with its summary.
+fn summed<R: Threads + Sync, G: Gate>(
+    rt: &R,
+    alloc: Global,
+    accepted: &Accepted,
+    number: u32,
+    gate: &G,
+) -> Result<Prepared, AllocError>
+    requires sound { IsSound accepted.now.plan }
+    requires entries { length accepted.now.program.entries ≡ length accepted.now.plan.contexts }
+    ensures { IfOk result (λ p. IsSummed number accepted.now.plan accepted.now.program p.answer p.text) }
+{
+    let report = run_plan(rt, alloc, &accepted.plan, &accepted.program, gate)?;
+    let told = summary(alloc, number, &report)?;
+    let text = summary_text(alloc, &told)?;
+    Ok(Prepared {
+        answer: Unwritten::Generated(report, told),
+        text,
+    })
+}
+
+// The report of a plan's run, with what the observer of this number covers in it.
+fn covered<R: Threads + Sync, G: Gate>(
+    rt: &R,
+    alloc: Global,
+    accepted: &Accepted,
+    binding: u32,
+    gate: &G,
+) -> Result<Prepared, AllocError>
+    requires sound { IsSound accepted.now.plan }
+    requires entries { length accepted.now.program.entries ≡ length accepted.now.plan.contexts }
+    requires observer { watches accepted.now.plan binding ≡ true }
+    ensures { IfOk result (λ p. IsCovered binding accepted.now.plan accepted.now.program p.answer p.text) }
+{
+    let Accepted { plan, program } = accepted;
+    let report = run_plan(rt, alloc, plan, program, gate)?;
+    let coverage = cover(alloc, &report, plan, program, binding)?;
+    let text = coverage_text(alloc, &coverage, plan, program)?;
+    Ok(Prepared {
+        answer: Unwritten::Covered(report, coverage),
+        text,
+    })
+}
+
+// The report of a plan's run, with its paths of calls by the observer of this number.
+fn treed<R: Threads + Sync, G: Gate>(
+    rt: &R,
+    alloc: Global,
+    accepted: &Accepted,
+    binding: u32,
+    gate: &G,
+) -> Result<Prepared, AllocError>
+    requires sound { IsSound accepted.now.plan }
+    requires entries { length accepted.now.program.entries ≡ length accepted.now.plan.contexts }
+    requires rooted { AreRooted accepted.now.program }
+    requires suits { is_for_tree accepted.now.plan binding ≡ true }
+    ensures { IfOk result (λ p. IsTreed accepted.now.plan accepted.now.program p.answer p.text) }
+{
+    let Accepted { plan, program } = accepted;
+    let report = run_plan(rt, alloc, plan, program, gate)?;
+    let calls = tree(alloc, &report, plan, program, binding)?;
+    let text = calltree_text(alloc, &calls, &report, program)?;
+    Ok(Prepared {
+        answer: Unwritten::Treed(report, calls),
+        text,
+    })
+}
+
 // The answer of a command, with its text, for a plan and its program. Nothing is written here.
 fn answer_of<R: Threads + Sync, G: Gate>(
     rt: &R,
@@ -95,6 +170,8 @@ fn answer_of<R: Threads + Sync, G: Gate>(
 ) -> Result<Prepared, AllocError>
     requires sound { IsSound accepted.now.plan }
     requires entries { length accepted.now.program.entries ≡ length accepted.now.plan.contexts }
+    requires rooted { AreRooted accepted.now.program }
+    requires fit { unfit_binding command.now accepted.now.plan ≡ None }
     ensures { IfOk result (λ p. IsTextOf command.now accepted.now.plan accepted.now.program p.answer p.text) }
 {
     match command {
@@ -104,13 +181,16 @@ fn answer_of<R: Threads + Sync, G: Gate>(
             answer: Unwritten::Checked,
             text: check_line(alloc, &accepted.plan, &accepted.program)?,
         }),
+        Command::Gen(number) => summed(rt, alloc, accepted, *number, gate),
+        Command::Coverage(words) => covered(rt, alloc, accepted, words.binding, gate),
+        Command::CallTree(words) => treed(rt, alloc, accepted, words.binding, gate),
     }
 }
 
 // What the words ask for.
 fn command_in(alloc: Global, words: &[String]) -> Result<Command, Outcome>
     ensures asked { IfOk result (λ command. command_of (texts words.now) ≡ Ok command) }
-    ensures fuel { IfOk result HasFuelInRange }
+    ensures numbers { IfOk result HasNumbersInRange }
     ensures stopped { IfErr result (StopsWords (texts words.now)) }
 {
     match read_words(alloc, words) {
@@ -154,12 +234,16 @@ fn write_answer<K: Sink>(out: &mut K, prepared: Prepared) -> Outcome
         Ok(()) => match answer {
             Unwritten::Ran(report) => Outcome::Ran(report),
             Unwritten::Checked => Outcome::Checked,
+            Unwritten::Generated(report, told) => Outcome::Generated(report, told),
+            Unwritten::Covered(report, coverage) => Outcome::Covered(report, coverage),
+            Unwritten::Treed(report, calls) => Outcome::Treed(report, calls),
         },
     }
 }
 
 /// Does a command: reads the words and the files, makes the whole text and writes it in pieces. The order is: words, the
-/// plan's file, plan, the file of each source, whether all sources are UTF-8, load, run, text, write.
+/// plan's file, plan, the binding that the command needs, the file of each source, whether all sources are UTF-8, load,
+/// run, text, write. `gen` reads no file: its plan and its sources are made.
 ///
 /// Each context of a plan, and the actions of each of its sessions, run in a thread of their own, by `rt`. The gate is
 /// asked at each event. Of a file at most 1,048,577 bytes are asked for: one more than a plan or source may have. Memory
@@ -178,7 +262,9 @@ pub fn run<R: Threads + Sync, L: Library, K: Sink, G: Gate>(
     // are its program's meaning under exactly the verdicts that its sessions answered; the log of each binding is
     // exactly the matching events while it was attached, enabled and not disposed, each once, in each context's order;
     // and each suspension stands exactly where breakpoints, steps and `debugger` statements put it. No schedule is a
-    // premise: this holds of the one report, in whatever order the threads took their steps.
+    // premise: this holds of the one report, in whatever order the threads took their steps. At `Generated`, `Covered` and
+    // `Treed` the report is such a one too, and the bytes are those of the summary, of the coverage or of the paths of
+    // calls that it has by definition.
     ensures tells { Tells
         (reading_of L.held L.given L.faults L.last_fault (texts words.now) files.old files.new)
         (writing_of K.taken K.accepted K.faults out.old out.new) result }
@@ -192,7 +278,7 @@ pub fn run<R: Threads + Sync, L: Library, K: Sink, G: Gate>(
     ensures usage { (fault : WordFault) → command_of (texts words.now) ≡ Err fault → (result ≡ Outcome.Usage fault) ⊎ (result ≡ Outcome.Memory) }
     ensures nothing_fetched { (fault : WordFault) → command_of (texts words.now) ≡ Err fault → files.new ≡ files.old }
 
-    // With an answer other than `Ran`, `Checked` and `SinkFailed` nothing is written.
+    // With an answer other than `SinkFailed` and those that have a text, nothing is written.
     ensures nothing_written { is_unwritten result ≡ true → out.new ≡ out.old }
 
     // The library keeps what it holds and what it gave, and no count falls.
